@@ -5,10 +5,7 @@ use Rattle.reports.specs.Shown.{entered}
 use Rattle.embed.proofs.entry_number.Statement.{statement}
 use Rattle.embed.proofs.entry_number.Tie as tie
 
-pub entry-number-spec : {M : Type 1} → statement M
-entry-number-spec =
+pub entry_number_spec : {M : Type 1} → statement M
+entry_number_spec =
     tie.close
-    (tie.spec (λ c. search rules) (λ c. search rules) (λ c. search rules)
-    (λ c. unfold entered entry_number in rw c.enum_told.given.1)
-    (λ c. unfold entered entry_number in rw c.enum-told2.given.1)
-    (λ c. unfold entered entry_number in rw c.enum-told3.given.1))
+    (tie.spec (λ c. search rules) (λ c. search rules) (λ c. search rules) (λ c. unfold entered entry_number in rw c.in-None.is) (λ c. unfold entered entry_number in rw c.in-Filter.is) (λ c. unfold entered entry_number in rw c.in-Forward.is))

@@ -9,15 +9,15 @@ use Rattle.embed.proofs.srp_report.Tie as tie
 returns : tie.Need-returns
 unfolding parts_of shown
 returns c =
-    let call = c.before.before.before.before.before.report in
+    let call = c.report-answer in
     record {
       answer = shown call.result;
       reports = call.ensures;
       number_is = refl;
-      parts_are = rw (c.before.entry-number.ensures, c.before.before.listener-number.ensures, c.before.before.before.before.column-number.ensures);
+      parts_are = rw (c.entry_number.ensures, c.listener_number.ensures, c.column_number.ensures);
     }
 
-pub srp-report-spec : {M : Type 1} → statement M
-srp-report-spec =
+pub srp_report_spec : {M : Type 1} → statement M
+srp_report_spec =
     tie.close
     (tie.spec (λ c κs. search rules) (λ c κs. search rules) (λ c. search rules) (λ c κs. search rules) (λ c κs. search rules) returns)

@@ -9,14 +9,14 @@ use Rattle.embed.proofs.srp_why.Tie as tie
 returns : tie.Need-returns
 unfolding why_parts why_shown
 returns c =
-    let call = c.before.before.before.before.why in
+    let call = c.why-answer in
     record {
       answer = why_shown call.result _;
       explains = call.ensures;
       number_is = refl;
-      parts_are = rw c.before.letter.ensures;
+      parts_are = rw c.letter.ensures;
       buffer-is = refl;
     }
 
-pub srp-why-spec : {M : Type 1} → statement M
-srp-why-spec = tie.close (tie.spec (λ c κs. search rules) (λ c κs. search rules) (λ c. search rules) (λ c. search rules) returns)
+pub srp_why_spec : {M : Type 1} → statement M
+srp_why_spec = tie.close (tie.spec (λ c κs. search rules) (λ c κs. search rules) (λ c. search rules) (λ c. search rules) returns)
