@@ -11,7 +11,7 @@ use lib.Dec.{leb}
 use Rattle.model.specs.Layout.{address_in, address_size, most_addresses, address_index, own_size}
 use Rattle.model.specs.Lists.{keep}
 use Rattle.model.specs.State.{Settings, stays, since, Presence, vacant, present, Address, Own}
-use Rattle.model.specs.Registrations.{at, change_addresses, quit_address}
+use Rattle.model.specs.Registrations.{change_addresses, quit_address}
 use Rattle.model.specs.Settling.{expired, outlasts, remain_addresses}
 use Rattle.model.specs.Table.{address_numbers, address_octets, to_address, own_octets, to_own}
 use Rattle.model.specs.Laid.{FitOwn, LaidOwn}

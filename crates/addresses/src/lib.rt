@@ -1,5 +1,7 @@
 // The MAC addresses registered on a port (02, vi), among what the port holds by itself: found, put in and taken out, left, and
 // expired (docs/TABLE.md, "What a port holds").
+#![tactic(auto)]
+
 ghost use Rattle.std.specs.Prelude.{◌≡◌, cond, map, ◌<◌, ◌≤◌, length, leb};
 ghost use Rattle.model.specs.Layout.{most_addresses, address_size, own_size};
 ghost use Rattle.model.specs.State.{Settings};

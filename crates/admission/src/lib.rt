@@ -1,5 +1,7 @@
 // Stage 2 of settling: on one port, in one class, the streams that stand at step h are taken by importance. One that does not
 // fit in what is left fails with code 1 and takes nothing; one that fits reserves its demand where its Listener is ready.
+#![tactic(auto)]
+
 ghost use Rattle.std.specs.Prelude.{◌≡◌, [], ◌++◌, ◌+◌, ◌≤◌, ◌<◌, ◌^◌, length, take};
 ghost use Rattle.model.specs.Layout.{result_size, total_size};
 ghost use Rattle.model.specs.Lists.{keep};

@@ -1,5 +1,7 @@
 // An Applicant in one octet of the table (docs/TABLE.md): each function is a row of Table 10-3, and its contract says that it gives the
 // table's entry.
+#![tactic(auto)]
+
 ghost use Rattle.std.specs.Prelude.{◌≡◌, false, ◌≤◌};
 ghost use Rattle.model.specs.Applicant as mrp;
 ghost use Rattle.model.specs.Applicant.{step, asks, event_at, opportunity};

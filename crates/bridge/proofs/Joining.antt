@@ -2,16 +2,16 @@
 use mathlib.Core.Path.{◌≡◌, refl, sym, ◌∙◌, ap, ap₂}
 use mathlib.Core.List.{List, [], ◌∷◌, ◌++◌, append_assoc}
 use mathlib.Core.Bool.{Bool, true, false, cond, ◌&&◌, ◌||◌}
-use Prim.Native.Nat.{ℕ, zero, suc, ◌+◌, ◌*◌, ◌-◌, ◌≤◌, ◌<◌}
+use Prim.Native.Nat.{ℕ, zero, suc, ◌+◌, ◌<◌}
 use native.Mathlib.Omega.{arith}
-use lib.ListN.{length, get_or, set, replicate}
+use lib.ListN.{length, set, replicate}
 use lib.Dec.{eqb}
 use borrow.Author.Tests.{eq-eqb, ne_eqb}
 use Rattle.octets.specs.Fields.{flat}
 use Rattle.model.specs.Layout.{slots}
-use Rattle.model.specs.Lists.{All, tabulate}
+use Rattle.model.specs.Lists.{tabulate}
 use Rattle.model.specs.Machines.{Applicant, no_applicant, applicant, applicant_of, with, born}
-use Rattle.model.specs.State.{Settings, Sender, no_sender, Bridge, Class, class_a, class_b, supports, class_id, class_priority, port_at, sender_at, slot_of, is_own_slot, declares_slot, started_sender}
+use Rattle.model.specs.State.{Settings, Sender, no_sender, Bridge, class_a, class_b, supports, class_id, class_priority, port_at, sender_at, slot_of, is_own_slot, declares_slot, started_sender}
 use Rattle.model.specs.Registrations.{at, sending}
 use Rattle.model.specs.Sending.{applicant_octets, domain_applicant, standing_number, leave_all_octets, sender_octets, to_sender}
 use Rattle.model.specs.Table.{encode, decode}

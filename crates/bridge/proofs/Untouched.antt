@@ -6,7 +6,7 @@ use Prim.Native.Nat.{ℕ, zero, suc, ◌^◌, ◌<◌}
 use native.Mathlib.Omega.{arith}
 use lib.ListN.{length, get_or}
 use Rattle.model.specs.Lists.{All, Octets}
-use Rattle.model.specs.State.{Result, Stream, Bridge, fresh, unsettled, stream_at, result_at}
+use Rattle.model.specs.State.{Stream, Bridge, fresh, unsettled, stream_at, result_at}
 use Rattle.model.specs.Registrations.{ids}
 use Rattle.model.specs.Settling.{decide_at, decide, declare, deciding, declaring, settle}
 use Rattle.model.specs.Table.{column_code, decode}

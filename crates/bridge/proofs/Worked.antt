@@ -2,7 +2,7 @@
 -- length. Each premise is that call's contract (specs/Promises). What they answer is computed by the definitions and compared with
 -- what 01 prints; so a bridge that refuses all, has a single answer, does nothing, or makes up totals, lengths or places is none
 -- that meets the contracts.
-use mathlib.Core.Path.{◌≡◌, refl, sym, ◌∙◌, ap}
+use mathlib.Core.Path.{◌≡◌, refl, ◌∙◌, ap}
 use mathlib.Core.List.{List, [], ◌∷◌, ◌++◌, map}
 use mathlib.Core.Bool.{true, false}
 use Prim.Native.Nat.{ℕ, ◌≤◌}
@@ -11,25 +11,17 @@ use lib.ListN.{length, take, drop}
 use lib.Seq.{take-append_seam}
 use lib.Dec.{ltb}
 use borrow.Author.Tests.{le-ltb, ltb-true}
-use Rattle.octets.specs.Be
-use Rattle.octets.specs.Fields
-use Rattle.octets.specs.Parts
 use Rattle.model.specs.Layout.{table_length}
 use Rattle.model.specs.Lists.{Octets, all_true}
-use Rattle.model.specs.Lists
 use Rattle.model.specs.State.{Bridge, Declared, nothing, tells, ready, Entry, no_entry, forwards}
 use Rattle.model.specs.State
-use Rattle.model.specs.Registrations
 use Rattle.model.specs.Frames
-use Rattle.model.specs.Bandwidth
 use Rattle.model.specs.Settling
 use Rattle.model.specs.Reports.{Report, ColumnWord, none_word, advertise_word}
-use Rattle.model.specs.Declarations
 use Rattle.model.specs.Writing.{write}
 use Rattle.model.specs.Reports as reports
 use Rattle.model.specs.WrittenFrames
 use Rattle.model.specs.Table.{settings_formed, to_settings, encode}
-use Rattle.model.specs.Table
 use Rattle.model.specs.Calls.{Call, start_on, receive_on, advance_on, report_on, write_on, written_to}
 use Rattle.model.specs.Calls
 use Rattle.model.proofs.Lists.{and_left, and_right}

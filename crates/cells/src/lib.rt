@@ -1,4 +1,6 @@
 // What the events of a frame and expiry do to one cell of 43 octets, and what it has registered (docs/TABLE.md, "Cell").
+#![tactic(auto)]
+
 ghost use Rattle.std.specs.Prelude.{◌≡◌, ℕ, ◌+◌, ◌≤◌, length};
 ghost use Rattle.model.specs.Layout.{cell_size, leaving_size};
 ghost use Rattle.model.specs.State.{Settings};

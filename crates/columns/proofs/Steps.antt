@@ -15,7 +15,7 @@ use Rattle.model.specs.Layout.{in_cell, in_port}
 use Rattle.model.specs.Lists.{All, is_one}
 use Rattle.model.specs.State.{Bridge, Port, talker_advertise, talker_failed, Own, Stream, Class, no_class, class_a, class_b, no_own, no_fixed, port_at, is_port, cell_at, own_at, class_of, is_no_class, supports}
 use Rattle.model.specs.Frames.{priority_of}
-use Rattle.model.specs.Settling.{Scene, scene_of, Inbound, boundary, source_of, fixed_of, is_talking, is_talker_failed, is_pruned, inbounds_of, shares, is_kept_out, StepName, step_a, step_b, step_c, step_d, step_e, step_f, step_g, step_i, step_j, step_k, step_l, step_m, step_n, Step, steps_from, steps, Source, nowhere, from, clear}
+use Rattle.model.specs.Settling.{Scene, scene_of, boundary, source_of, fixed_of, is_talking, is_talker_failed, is_pruned, inbounds_of, shares, is_kept_out, StepName, step_a, step_b, step_c, step_d, step_e, step_f, step_g, step_i, step_j, step_k, step_l, step_m, step_n, Step, steps_from, steps, Source, nowhere, from, clear}
 use Rattle.model.specs.Table.{to_port, to_cell, registration_from, to_talker_type, port_from}
 use Rattle.model.specs.Why.{letter, same_step, first_name}
 use Rattle.model.proofs.SettingsOctets.{octet-field}

@@ -12,7 +12,7 @@ use Rattle.octets.specs.Be.{be_at}
 use Rattle.octets.specs.Fields.{fields}
 use Rattle.model.specs.Layout.{in_cell, cell_index}
 use Rattle.model.specs.State.{Settings, Port, none, failed, Class, no_class, class_a, class_b, is_no_class, Talker, no_talker, talker, Cell, Stream, no_fixed, port_at, cell_at, class_of, class_latency}
-use Rattle.model.specs.WrittenFrames.{priority_octet, fixed_numbers, fixed_from}
+use Rattle.model.specs.WrittenFrames.{priority_octet, fixed_numbers}
 use Rattle.model.specs.Settling.{Source, source_of, fixed_of, latency_of, talker_type_of, failed_column, stream_class, capped, latency_out}
 use Rattle.model.specs.Table.{to_port, port_from, cell_numbers, talker_numbers, registration_from, to_talker_type, to_cell}
 use Rattle.model.specs.Laid.{FitRank}

@@ -1,4 +1,6 @@
 // Listener declarations packed into vectors: how many of a port's fit in a PDU, and their least cutting.
+#![tactic(auto)]
+
 ghost use Rattle.std.specs.Prelude.{◌≡◌, ◌+◌, ◌≤◌, ◌<◌, length, get_or, take};
 ghost use Rattle.model.specs.Cutting.{values, octets_for};
 ghost use Rattle.model.specs.Best.{price, least, run};

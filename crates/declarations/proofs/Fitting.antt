@@ -4,7 +4,7 @@ use native.Mathlib.Nat.{suc-mul, one-mul, div-eq_of_lt, div-eq-sub-div, div-mul-
 use native.Mathlib.Omega.{arith}
 use mathlib.Core.Path.{◌≡◌, refl, sym, ap, ◌∙◌}
 use mathlib.Core.Bool.{Bool, true, false, cond}
-use mathlib.Core.List.{List, [], ◌∷◌, ◌++◌, map, append-nil}
+use mathlib.Core.List.{List, [], ◌∷◌, ◌++◌, append-nil}
 use lib.ListN.{length, length-append, length-map, get_or, take, drop}
 use lib.Seq.{take_all, take-nil, drop-nil, take-append-le, take-append-add, length-take-le}
 use lib.Dec.{ltb, leb}
@@ -19,8 +19,8 @@ use Rattle.model.specs.Frames.{Attribute, registers, domain_type, type_number}
 use Rattle.model.specs.Declarations as model
 use Rattle.model.specs.Declarations.{Declaration, talker_kind, attribute_of, listener_declaration, advertise_of, failed_of, declarations_of, domain_of, Said, say, having, vector_size, vectors_size, empty_size, message_size, messages_size}
 use Rattle.model.specs.Writing.{leaves_all, port_way, say_on}
-use Rattle.model.proofs.Lists.{all_map, all_append, all_take, all_drop, longest-ends, longest-stops, longest-goes, longest-within, longest-same, longest-from}
-use Rattle.model.proofs.WritingPasses.{Typed, listed_type, OfAttribute, After, fits_with, more_size, others_size, others-size, all-of-saying, all_said, all_listed, length-message, message-least, message-some, fitting-types, fitting-single}
+use Rattle.model.proofs.Lists.{all_append, all_take, all_drop, longest-ends, longest-stops, longest-goes, longest-within, longest-same, longest-from}
+use Rattle.model.proofs.WritingPasses.{Typed, listed_type, OfAttribute, fits_with, more_size, others_size, others-size, all-of-saying, all_said, all_listed, length-message, message-least, message-some, fitting-types, fitting-single}
 use Rattle.declarations.specs.declared.Progress.{Progress}
 use Rattle.declarations.specs.Passes.{declarers, machine_by, said_of, gathered, machines_from, said_from, all_of, Single, fits, earlier, later, fitting, message, fit, rest, taken, said, passed}
 use Rattle.declarations.proofs.Declared.{machines-first, said-is, said-append, reached-quiet, reached-said, reached-none}

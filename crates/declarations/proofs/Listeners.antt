@@ -19,14 +19,14 @@ use Rattle.model.specs.Table.{decode}
 use Rattle.model.proofs.Lists.{all_take}
 use Rattle.model.proofs.Ascents.{ascending-rising}
 use Rattle.model.proofs.LongestRun.{length_cut, run-longest}
-use Rattle.model.proofs.WritingPasses.{OfAttribute, others_size, ids-take, length-message, message-least, message-some, fitting-listeners}
+use Rattle.model.proofs.WritingPasses.{OfAttribute, ids-take, length-message, message-least, message-some, fitting-listeners}
 use Rattle.cutting.specs.Named.{ids_of}
 use Rattle.cutting.specs.Plan.{Packed}
 use Rattle.cutting.proofs.Named.{ids-length, ids-take as named-ids, named-take}
 use Rattle.cutting.proofs.Loops.{planned-octets}
 use Rattle.declarations.specs.Passes.{earlier, later, fitting, message}
 use Rattle.declarations.specs.Packed.{listeners_at, CutIn, PackedIn}
-use Rattle.declarations.proofs.Packed.{listeners-own, listeners-ids, listeners-length, listeners-take, telling-take}
+use Rattle.declarations.proofs.Packed.{listeners-own, listeners-ids, listeners-length, telling-take}
 use Rattle.declarations.proofs.Fitting.{used-is}
 
 module _ (t : List ℕ) (p : ℕ) (places : List ℕ) (at : ℕ) (b : List ℕ) (w : PackedIn t p places at b) where

@@ -2,7 +2,7 @@
 use mathlib.Core.Path.{◌≡◌, refl, sym, ◌∙◌, ap}
 use mathlib.Core.Bool.{Bool, true, false}
 use mathlib.Core.List.{List, [], ◌∷◌, ◌++◌, map, map-append, append-nil, append_assoc}
-use Prim.Native.Nat.{ℕ, zero, suc, ◌+◌, ◌-◌, ◌≤◌, ◌<◌}
+use Prim.Native.Nat.{ℕ, ◌+◌, ◌-◌, ◌≤◌, ◌<◌}
 use native.Mathlib.Numerals.{add-one}
 use native.Mathlib.Omega.{arith}
 use lib.ListN.{length, length-map, get_or, set, take, drop, length-set, length-append, length-drop, drop_of_length-le}
@@ -37,7 +37,7 @@ use Rattle.cutting.proofs.Named.{ids-length, ids-take as named-ids-take, ids-dro
 use Rattle.cutting.proofs.Loops.{Next}
 use Rattle.declarations.specs.Vectors.{some}
 use Rattle.declarations.specs.Passes.{declarers, machine_by, said_of, said_by, said_from}
-use Rattle.declarations.specs.Packed.{first_said, listener_at, listeners_at, Tells, Telling, Placed, packed_vectors}
+use Rattle.declarations.specs.Packed.{first_said, listener_at, listeners_at, Tells, Telling, packed_vectors}
 use Rattle.declarations.proofs.Declared.{said-end, nothing_said, said-counted, said-taken}
 use Rattle.declarations.proofs.Vectors.{listener-said}
 

@@ -1,9 +1,7 @@
 -- A declarer of a type that registers is a stream, one of Domain values a slot.
-use mathlib.Core.Path.{◌≡◌, subst}
+use mathlib.Core.Path.{subst}
 use mathlib.Core.List.{List}
 use Prim.Native.Nat.{ℕ, ◌<◌}
-use lib.ListN.{length}
-use Rattle.model.specs.Layout.{slots}
 use Rattle.model.specs.Registrations.{Kind}
 use Rattle.model.specs.Frames.{registers, domain_type}
 use Rattle.table.specs.Places.{StandsOn, SlotIn}

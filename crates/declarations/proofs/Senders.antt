@@ -1,8 +1,7 @@
 -- What a port sends by itself, in octets: the state of each Domain slot's Applicant, and whether its LeaveAll is active.
-use Prim.Native.Nat.{ℕ, zero, suc, ◌+◌, ◌<◌, ◌^◌}
+use Prim.Native.Nat.{ℕ, zero, suc, ◌+◌, ◌<◌}
 use native.Mathlib.Omega.{arith}
 use mathlib.Core.Path.{◌≡◌, refl, sym, ap, ◌∙◌, subst}
-use mathlib.Core.Bool.{Bool}
 use mathlib.Core.List.{List, [], ◌∷◌, ◌++◌}
 use lib.ListN.{length, get_or, get_or-append}
 use lib.Seq.{get_or-append-add}
@@ -11,10 +10,10 @@ use Rattle.octets.specs.Fields.{Fit, flat, width}
 use Rattle.octets.proofs.Fields.{get-octet}
 use Rattle.model.specs.Layout.{in_sender, leave_all_widths, slots}
 use Rattle.model.specs.Machines.{Applicant, no_applicant, applicant}
-use Rattle.model.specs.LeaveAll.{LeaveAll, LeaveAllState, active, passive, is_active}
+use Rattle.model.specs.LeaveAll.{LeaveAllState, active, passive, is_active}
 use Rattle.model.specs.State.{Sender, Bridge, sender_at}
 use Rattle.model.specs.Frames.{domain_type}
-use Rattle.model.specs.Sending.{applicant_octets, domain_applicant, active_number, leave_all_octets, sender_octets, to_sender}
+use Rattle.model.specs.Sending.{applicant_octets, domain_applicant, active_number, leave_all_octets, sender_octets}
 use Rattle.model.specs.Declarations.{Declaration, listed_as, domain_of}
 use Rattle.model.specs.Writing.{leaves_all}
 use Rattle.model.specs.Laid.{FitSender}

@@ -1,6 +1,6 @@
 -- What the octets of a table say of a declaration: the state of its Applicant, whether a write says something of it, whether the port has
 -- its registration, and so the event.
-use Prim.Native.Nat.{ℕ, zero, suc, ◌+◌, ◌-◌, ◌*◌, ◌/◌, ◌%◌, ◌≤◌, ◌<◌}
+use Prim.Native.Nat.{ℕ, zero, suc, ◌+◌, ◌/◌, ◌%◌, ◌≤◌, ◌<◌}
 use native.Mathlib.Omega.{arith}
 use mathlib.Core.Path.{◌≡◌, refl, sym, ap, ◌∙◌, subst}
 use mathlib.Core.Bool.{Bool, true, false, not, cond, ◌&&◌, false≢true}
@@ -13,16 +13,16 @@ use Rattle.octets.proofs.Fields.{get-octet}
 use Rattle.octets.proofs.Frame.{get_or_part}
 use Rattle.model.specs.Layout.{cell_index, cell_widths, in_cell, in_slot, slot_index, slot_place, slot_size, slot_widths}
 use Rattle.model.specs.Lists.{All, keep}
-use Rattle.model.specs.Applicant.{ApplicantState, ApplicantEvent, tx, tx_la, applicant_row, applicant_column, applicant_entry, by, is_written, message_number, opportunity, Standing, named, sent, speaks, spoken, state_of, octet_of, asks, event_at}
-use Rattle.model.specs.Machines.{Listed, Applicant, no_applicant, applicant, way}
+use Rattle.model.specs.Applicant.{ApplicantState, ApplicantEvent, applicant_row, applicant_column, applicant_entry, by, is_written, message_number, opportunity, Standing, sent, speaks, spoken, state_of, asks, event_at}
+use Rattle.model.specs.Machines.{Listed, no_applicant, way}
 use Rattle.model.specs.Places.{saying}
-use Rattle.model.specs.State.{Leaving, stays, since, TalkerType, talker_advertise, talker_failed, Talker, no_talker, talker, Domain, no_domain, domain, Listener, no_listener, listener, Cell, Ready, asking_failed, ready, ready_failed, Sends, Stream, Bridge, fresh, cell_at, sends_at, sender_at, own_at, slot_of, stream_at, ready_number}
+use Rattle.model.specs.State.{Leaving, stays, since, TalkerType, talker_advertise, talker_failed, Talker, no_talker, talker, Domain, no_domain, domain, Listener, no_listener, listener, Cell, Stream, Bridge, fresh, cell_at, sends_at, sender_at, own_at, slot_of, stream_at, ready_number}
 use Rattle.model.specs.Registrations.{Kind, advertises, faileds, listeners, ids, is_staying, talks_as, talker_stays, listener_stays, domain_stays, registered_in}
 use Rattle.model.specs.Frames.{Attribute, registers, domain_type}
 use Rattle.model.specs.WrittenFrames.{fixed_numbers}
 use Rattle.model.specs.Sending.{standing_number}
-use Rattle.model.specs.Table.{talker_type_number, leaving_number, since_number, talker_numbers, listener_numbers, cell_numbers, cell_octets, to_cell, domain_numbers, domain_octets, to_domain, decode}
-use Rattle.model.specs.Declarations.{Declaration, talker_kind, Said, say, listed_as, advertise_of, failed_of, listener_declaration, declarations_of, domain_of, registered_of, is_registered}
+use Rattle.model.specs.Table.{talker_type_number, leaving_number, talker_numbers, listener_numbers, cell_numbers, cell_octets, to_cell, domain_numbers, domain_octets, to_domain, decode}
+use Rattle.model.specs.Declarations.{Declaration, talker_kind, say, advertise_of, failed_of, listener_declaration, declarations_of, domain_of, registered_of, is_registered}
 use Rattle.model.specs.Writing.{leaves_all, port_way, say_on}
 use Rattle.model.specs.Laid.{Ascending}
 use Rattle.model.proofs.Lists.{all-at, get_or_map}

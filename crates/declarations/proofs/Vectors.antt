@@ -1,24 +1,23 @@
 -- What a port sends of a stream, in octets: the states of its Applicants, and behind each the values of its declaration, which are those of
 -- its vector.
-use Prim.Native.Nat.{ℕ, zero, suc, ◌+◌, ◌-◌, ◌*◌, ◌/◌, ◌%◌, ◌≤◌, ◌<◌}
+use Prim.Native.Nat.{ℕ, ◌+◌, ◌≤◌}
 use native.Mathlib.Omega.{arith}
 use mathlib.Core.Path.{◌≡◌, refl, sym, ap, ◌∙◌}
-use mathlib.Core.Bool.{Bool, true, false, false≢true}
+use mathlib.Core.Bool.{true, false≢true}
 use mathlib.Core.List.{List, [], ◌∷◌, ◌++◌, append-nil, append_assoc}
 use lib.ListN.{length, get_or, take, drop, length-append}
 use lib.Seq.{take_at, drop_at, drop-drop, get_or-append-add}
-use Rattle.octets.specs.Be.{be}
 use Rattle.octets.specs.Parts.{part}
 use Rattle.octets.specs.Fields.{packed, width, flat}
-use Rattle.octets.proofs.Fields.{length-packed-any, packed-append}
+use Rattle.octets.proofs.Fields.{length-packed-any}
 use Rattle.model.specs.Layout.{advertising_size, failed_size, failing_size, failure_widths, in_sends, offer_size, offer_widths, ready_size}
 use Rattle.model.specs.Lists.{bit}
 use Rattle.model.specs.Machines.{Listed, Applicant, no_applicant, applicant}
-use Rattle.model.specs.State.{Settings, Ready, Offer, Failure, Sends, Sender, Stream, Bridge, sends_at, sender_at, stream_at, ready_number}
+use Rattle.model.specs.State.{Settings, Ready, Offer, Failure, Sends, Stream, Bridge, sends_at, sender_at, stream_at}
 use Rattle.model.specs.Registrations.{advertises, faileds, listeners}
 use Rattle.model.specs.Frames.{registers, domain_type, first_widths}
 use Rattle.model.specs.WrittenFrames.{fixed_numbers, failure_numbers, first_numbers, four_octets, declaration_vector, vector_octets, listener_number}
-use Rattle.model.specs.Sending.{standing_number, applicant_octets, both_octets, offer_numbers, offer_octets, failure_octets, ready_octets, sends_octets}
+use Rattle.model.specs.Sending.{applicant_octets, both_octets, offer_numbers, offer_octets, failure_octets, ready_octets, sends_octets}
 use Rattle.model.specs.Declarations.{Declaration, talker_kind, attribute_of, listener_declaration, Said, listed_as, advertise_of, failed_of, declarations_of, domain_of, say}
 use Rattle.model.specs.Writing.{say_on}
 use Rattle.model.proofs.Cells.{ready-number}

@@ -31,7 +31,6 @@ use Rattle.model.proofs.Lists.{all_map, all_append, all_take}
 use Rattle.model.proofs.Parts.{length-zeros, zeros-add}
 use Rattle.model.proofs.WritingPasses.{Typed, listed_type, in_turn, OfAttribute, having-append, length-packed, message-least, length-message, map-take, takes-within}
 use Rattle.declarations.specs.declared.Progress.{Progress}
-use Rattle.declarations.specs.declared.Taken.{Taken}
 use Rattle.declarations.specs.declared.Message.{Message}
 use Rattle.declarations.specs.declared.Start.{Start}
 use Rattle.declarations.specs.Vectors.{Holding, announced}

@@ -1,5 +1,7 @@
 // What a port writes: its declarations by place, and the PDU that says as many as fit from a place on, with the events of their
 // Applicants. Ports p, streams and Domain slots k are counted from 0.
+#![tactic(auto)]
+
 ghost use Rattle.std.specs.Prelude.{◌≡◌, false, not, [], ◌∷◌, ◌++◌, ◌+◌, ◌-◌, ◌*◌, ◌≤◌, ◌<◌, length, get_or, eqb};
 ghost use Rattle.octets.specs.Be.{be};
 ghost use Rattle.octets.specs.Parts.{part};

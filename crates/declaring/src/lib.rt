@@ -1,5 +1,7 @@
 // What an advance makes of the Applicants of a stream on a port, and of the port's LeaveAll timer (02, xiv): Join! of what was decided,
 // with the octets decided, Lv! of what was not.
+#![tactic(auto)]
+
 ghost use Rattle.std.specs.Prelude.{◌≡◌, true, ◌++◌, suc, ◌+◌, ◌≤◌, length};
 ghost use Rattle.model.specs.Layout.{failed_size, sender_size, sends_size};
 ghost use Rattle.model.specs.State.{Fixed, Result};

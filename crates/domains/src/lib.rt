@@ -1,5 +1,7 @@
 // What the events of a frame and expiry do to one Domain value of 8 octets, and to all that a port holds; what its Domain values
 // say of a class (docs/TABLE.md, "What a port holds").
+#![tactic(auto)]
+
 ghost use Rattle.std.specs.Prelude.{◌≡◌, map, not, ◌||◌, ◌<◌, length};
 ghost use Rattle.model.specs.Layout.{own_size, slot_size};
 ghost use Rattle.model.specs.State.{Settings, stays, domain};

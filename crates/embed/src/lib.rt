@@ -1,6 +1,8 @@
 // The seven calls for programs in C and Rust (include/srp.h, docs/EMBEDDING.md): crate bridge's, under names of their own. A slice
 // passes as a pointer and a length; what a call answers beside its number goes to where the caller points. None asks anything of
 // its arguments, and each promises what the call below it promises.
+#![tactic(auto)]
+
 ghost use Rattle.std.specs.Prelude.{◌≡◌};
 ghost use Rattle.reports.specs.Shown.{column_word, declared, entered};
 ghost use Rattle.bridge.specs.Promises.{Starts, Receives, ReceivesMmrp, Advances, Writes};

@@ -1,4 +1,6 @@
 // Inbound ports and shared addresses: the own failure that a stream has on every port alike.
+#![tactic(auto)]
+
 ghost use Rattle.std.specs.Prelude.{◌≡◌, ◌<◌, ◌+◌};
 ghost use Rattle.model.specs.Settling.{scene_of, inbounds_of, source_of, fixed_of, is_inbound, may_bring};
 ghost use Rattle.model.specs.Table.{decode};

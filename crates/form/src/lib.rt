@@ -1,6 +1,7 @@
 // The form rules of settings (number 11) and of the lent table (number 12): docs/TABLE.md has the layout and the rules. Each
 // function promises to be the definition of the same rules in the model. Rules are taken together by `&`, in the definition's
 // order, and no loop stops early: what is in form is tested whole anyway, and tests without an exit go many octets at a time.
+#![tactic(auto)]
 
 ghost use Rattle.std.specs.Prelude.{◌≡◌, [], ◌∷◌, not, ◌&&◌, ◌||◌, ◌+◌, ◌*◌, ◌%◌, ◌≤◌, length, get_or, take, drop, leb, eqb};
 ghost use Rattle.octets.specs.Fields.{fields};

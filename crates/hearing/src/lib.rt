@@ -1,5 +1,7 @@
 // What the Applicants of a port and its LeaveAll machine hear of a frame (02, xiv): on the 47 octets of what the port sends of a stream,
 // and on the 21 of what it sends by itself (docs/TABLE.md), where the Applicants of the Domain values stand first, by their slots.
+#![tactic(auto)]
+
 ghost use Rattle.std.specs.Prelude.{◌≡◌, false, map, ℕ, ◌≤◌, ◌<◌, length};
 ghost use Rattle.model.specs.Layout.{sends_size, sender_size, slots};
 ghost use Rattle.model.specs.Applicant.{step};

@@ -1,4 +1,6 @@
 // The walk that applies an MMRP frame to the addresses of its port (02, vi), on what the port holds by itself.
+#![tactic(auto)]
+
 ghost use Rattle.std.specs.Prelude.{◌≡◌, ◌∷◌, [], true, ◌<◌, ◌/◌, ◌^◌, length};
 ghost use Rattle.model.specs.Registrations.{join_address};
 ghost use Rattle.model.specs.Laid.{LaidOwn};

@@ -1,5 +1,7 @@
 // The reader of MMRP frames (02, vi): each function's answer is that of the definitions in crate model, for every input. Vectors
 // are read by crate msrpdu.
+#![tactic(auto)]
+
 ghost use Rattle.std.specs.Prelude.{◌≡◌, ◌≤◌, length};
 ghost use Rattle.model.specs.AddressFrames.{first_octets, address_header, overruns, address_walk};
 ghost use Rattle.mmrpdu.specs.Reader.{list_named, header_number, message_read, typed_read, number_of, address_in};

@@ -1,6 +1,6 @@
 -- Demand 1 for MMRP frames: what receive_mmrp answers for every input. A refusal alters no octet, and each number is given exactly when
 -- 02's text says so: "MMRP uses 1 to 7 in the same order, and 14, tested last, where a port would need a 65th address".
-use mathlib.Core.Path.{◌≡◌, refl, sym, ◌∙◌, ap, subst}
+use mathlib.Core.Path.{◌≡◌, refl, ◌∙◌, ap, subst}
 use mathlib.Core.Logic.Iff
 use mathlib.Core.Logic.{◌↔◌, ◌⊎◌, inl, inr, ⊎_elim}
 use mathlib.Core.List.{List}

@@ -13,7 +13,7 @@ use borrow.Author.Tests.{le-leb}
 use Rattle.model.specs.Layout.{most_addresses}
 use Rattle.model.specs.Lists.{All, on, Octets}
 use Rattle.model.specs.State.{Own, Bridge, no_own, own_at}
-use Rattle.model.specs.Registrations.{Act, AddressAct, leave_all, leave, talk, listen, of_domain, does_domain, at, change_domains, apply_own, apply_owns, apply_all, Reading, refused, acts, AddressReading, refused_frame, address_acts, Answer, does_addresses, change_addresses, holding, owning, received, received_addresses, together, macs, address_joins, asks_addresses, hear_all, hear, sending, apply_senders}
+use Rattle.model.specs.Registrations.{Act, AddressAct, leave_all, leave, talk, listen, of_domain, does_domain, change_domains, apply_own, apply_owns, apply_all, Reading, refused, acts, AddressReading, refused_frame, address_acts, Answer, does_addresses, change_addresses, holding, owning, received, received_addresses, together, macs, address_joins, asks_addresses, hear_all, hear, sending, apply_senders}
 use Rattle.model.specs.Frames.{reading, wrong_port}
 use Rattle.model.specs.AddressFrames.{address_reading}
 use Rattle.model.specs.Table.{decode, formed}

@@ -1,13 +1,13 @@
 -- Addresses after an MMRP frame: those held before and those joined, each once, ascending; valid; so the bridge keeps the form rules.
 -- 14 is given exactly where they are more than 64, and where there is room for all that frames ask for, to none of them.
 use mathlib.Core.Path.{◌≡◌, refl, sym, ◌∙◌, ap}
-use mathlib.Core.List.{List, [], ◌∷◌, ◌++◌, map}
+use mathlib.Core.List.{List, [], ◌∷◌, map}
 use mathlib.Core.Bool.{Bool, true, false, cond}
-use Prim.Native.Nat.{ℕ, suc, ◌-◌, ◌^◌, ◌≤◌, ◌<◌}
+use Prim.Native.Nat.{ℕ, ◌-◌, ◌^◌, ◌≤◌, ◌<◌}
 use native.Mathlib.Omega.{arith}
 use lib.ListN.{length, length-map}
 use lib.Dec.{ltb, leb, eqb}
-use borrow.Author.Tests.{eqb-true, leb-true, le-leb}
+use borrow.Author.Tests.{eqb-true, leb-true}
 use Rattle.model.specs.Layout.{most_addresses}
 use Rattle.model.specs.Lists.{All}
 use Rattle.model.specs.State.{Presence, vacant, present, Address, Own, Bridge}

@@ -11,13 +11,13 @@ use borrow.Author.Tests.{ltb-false, leb-false, le-ltb, le-leb, eq-eqb, ne_eqb, l
 use Rattle.model.specs.Lists.{All, keep, tabulate, implies, bit}
 use Rattle.model.specs.State.{Port, Settings, Leaving, stays, since, TalkerType, talker_advertise, talker_failed, Talker, no_talker, talker, Listener, no_listener, listener, Cell, Domain, no_domain, domain, Presence, vacant, present, Address, Own, Column, none, advertise, failed, Entry, no_entry, filters, forwards, Declared, nothing, tells, Fixed, Sends, Sender, Result, Stream, Totals, Bridge, empty, unsettled, no_fixed, no_own, no_sends, no_sender, no_port, own_at, port_at, is_port, cell_at, result_at, sends_at, sender_at, declares_slot, Class, class_a, class_b, in_force, no_class, same_class, supports}
 use Rattle.model.specs.Registrations.{Answer, ids, macs}
-use Rattle.model.specs.Settling.{is_advertise, Scene, flag_of, decide_own, decide_owns, expired, expire_domain, outlasts, remain_addresses, expire_talker, expire_listener, expire_cell, expire, held, any_sending, is_held, drop_unheld, advertised_by, failed_by, listened_by, same_offer, same_failed, same_ready, declare_sends, declare, time_sender, deciding, declaring, remain, Source, nowhere, from, source, source_of, is_source, fixed_of, talker_type_of, registered, is_ready, Outcome, column_none, as_registered, own_failure, Step, first, failed_column, outcome_column, steps_from, steps, age_of, claims, reserved_a, limit_on, by_bandwidth, column_of, capped, latency_out, entry_of, age_kept, latency_kept, decide_at, decide, total_on, totals_on, settle, advance, is_talking, is_hearing, Origin, stream_class, clear, Inbound, inbounds_of, as_advertise, bandwidth_steps, outcome_of, scene_of}
+use Rattle.model.specs.Settling.{is_advertise, Scene, flag_of, decide_own, decide_owns, expired, expire_domain, outlasts, remain_addresses, expire_talker, expire_listener, expire_cell, expire, held, any_sending, is_held, drop_unheld, advertised_by, failed_by, listened_by, same_offer, same_failed, same_ready, declare_sends, declare, time_sender, deciding, declaring, remain, Source, nowhere, from, source, source_of, is_source, fixed_of, talker_type_of, registered, is_ready, Outcome, column_none, as_registered, own_failure, Step, first, failed_column, outcome_column, steps_from, steps, age_of, claims, reserved_a, limit_on, by_bandwidth, column_of, capped, latency_out, entry_of, age_kept, latency_kept, decide_at, decide, total_on, totals_on, settle, advance, is_talking, is_hearing, Origin, stream_class, clear, inbounds_of, as_advertise, bandwidth_steps, outcome_of}
 use Rattle.model.specs.Bandwidth.{sort, total, reserved}
 use Rattle.model.specs.Applicant.{Standing, very_anxious_passive, very_anxious_new, anxious_new, anxious_active, quiet_active, leaving_active, lv, join, becomes, standing, applicant_entry, vo}
 use Rattle.model.specs.Machines.{Applicant, no_applicant, applicant, Decided, undeclared, declared, other_content, with, applicant_of, after, born, decided}
 use Rattle.model.specs.LeaveAll.{LeaveAllState, active, passive, LeaveAll, leavealltimer, starting, leave_all_row, leave_all_column, leave_all_entry, leave_all_next, leave_all_time, has_run, timed_out}
 use Rattle.model.specs.Table.{totals_within, talkers, has_column, declares, declarers, for_listener, stored_rules, stored_formed, at_most, any_held, is_standing, stands, is_failed, alike, sent_rules, sent_formed}
-use Rattle.model.proofs.Lists.{all_append, all_get_or, all-tabulate, at_place, and-false, implies_true, true-all}
+use Rattle.model.proofs.Lists.{all_get_or, all-tabulate, at_place, and-false, implies_true, true-all}
 use Rattle.model.proofs.Parts.{◌also◌}
 use Rattle.model.proofs.Stored.{talker-counts, other-counts, one-declares}
 use Rattle.model.proofs.Admission.{within}

@@ -5,7 +5,6 @@ use mathlib.Core.List.{List, [], ◌∷◌, map}
 use mathlib.Core.Bool.{Bool, true, false, cond}
 use Prim.Native.Nat.{ℕ, zero, suc, ◌≤◌}
 use native.Mathlib.Omega.{arith}
-use lib.ListN.{get_or}
 use Rattle.model.specs.Lists.{All, all_true}
 use Rattle.model.specs.Applicant.{ApplicantState, la, ApplicantEvent, begin, new, join, lv, r_new, r_join_in, r_in, r_join_mt, r_mt, r_lv, r_la, redeclare, tx, tx_la, tx_laf, to, by, after_new, passive_leaving_all, new_leaving_all, applicant_row, applicant_column, applicant_entry, is_written, message_number, Standing, very_anxious_passive, very_anxious_new, anxious_new, anxious_active, quiet_active, leaving_active, named, standing, becomes, sent, speaks, spoken, state_of, octet_of, step, asks, event_at}
 use Rattle.model.proofs.Lists.{all_true_lem}

@@ -10,7 +10,7 @@ use lib.ListN.{length, get_or}
 use lib.Dec.{eqb}
 use borrow.Author.Tests.{eqb-false, ne_eqb, lt-ltb}
 use Rattle.model.specs.State.{Port, Settings, Cell, Domain, no_domain, domain, Own, no_own, failed, Stream, Bridge, no_port, port_at, is_port, cell_at, own_at, Class, no_class, class_a, class_b, class_of, is_no_class, supports, class_priority}
-use Rattle.model.specs.Settling.{Source, nowhere, from, source_of, fixed_of, talker_type_of, stream_class, is_domain, any_domain, other_priority, domains_of, any_supports, is_edge, flag_of, decide_own, decide_owns, boundary, Scene, clear, is_talker_failed, Inbound, steps_from, steps, column_of, settle, deciding, declaring}
+use Rattle.model.specs.Settling.{Source, nowhere, from, source_of, fixed_of, talker_type_of, stream_class, is_domain, any_domain, other_priority, domains_of, any_supports, is_edge, flag_of, decide_own, decide_owns, boundary, Scene, clear, is_talker_failed, steps_from, steps, column_of, settle, deciding, declaring}
 use Rattle.model.specs.Table.{column_code}
 use Rattle.model.proofs.OwnCodes.{gives, earlier, asked, never, once, steps_of, own-decided, own-only, no-talker}
 use Rattle.model.proofs.Lists.{at_place}

@@ -9,13 +9,12 @@ use Prim.Native.Nat.{ℕ, zero, suc, ◌+◌, ◌-◌, ◌^◌, ◌≤◌, ◌<�
 use native.Mathlib.Omega.{arith}
 use lib.ListN.{get_or, length}
 use lib.Dec.{ltb, leb}
-use borrow.Author.Tests.{ltb-true, ltb-false, lt-leb, le-leb}
 use Rattle.model.specs.Lists.{All, keep, tabulate}
 use Rattle.model.specs.State.{Settings, is_port, TalkerType, talker_advertise, talker_failed, Column, advertise, failed, Entry, no_entry, filters, forwards, Declared, nothing, Result, Stream, Bridge, Class, no_class, class_a, class_b, same_class, supports, both_limits, in_force, port_at, cell_at, result_at, unsettled, Totals, no_totals}
 use Rattle.model.specs.Registrations.{ids}
 use Rattle.model.specs.Table.{at_most, any_held}
 use Rattle.model.specs.Bandwidth.{Claim, key, above, sort, reserved, remains, admitted, total, taken}
-use Rattle.model.specs.Settling.{Scene, scene_of, decide_owns, remain, Source, nowhere, from, source_of, is_source, fixed_of, talker_type_of, stream_class, registered, is_ready, is_advertise, Outcome, column_none, as_registered, own_failure, Step, first, clear, failed_column, outcome_column, steps, age_of, claim, claims, reserved_a, limit_on, left_for, by_bandwidth, column_of, latency_out, entry_of, age_kept, latency_kept, passed, merge_all, merged, decide_at, decide, total_on, totals_on, deciding, Inbound, inbounds_of, as_advertise, bandwidth_steps, outcome_of, step_a, steps_from, about, settle}
+use Rattle.model.specs.Settling.{Scene, scene_of, decide_owns, remain, Source, nowhere, from, source_of, is_source, fixed_of, talker_type_of, stream_class, registered, is_ready, is_advertise, Outcome, column_none, as_registered, own_failure, Step, first, clear, failed_column, outcome_column, steps, age_of, claim, claims, reserved_a, limit_on, left_for, by_bandwidth, column_of, latency_out, entry_of, age_kept, latency_kept, passed, merge_all, merged, decide_at, decide, total_on, totals_on, deciding, Inbound, inbounds_of, as_advertise, bandwidth_steps, outcome_of, step_a, steps_from, about}
 use Rattle.model.proofs.Lists.{all_map, all_both, all-each, and_right, and-true, and-false}
 use Rattle.model.proofs.StepNames.{every_step, every-all, not_admitted}
 use Rattle.model.proofs.Valid.{Rising}

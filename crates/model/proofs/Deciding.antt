@@ -1,6 +1,6 @@
 -- What an advance leaves of one machine: what was decided stands, with its values; what was not is LA with the values last declared, and
 -- only VP goes without an Lv. What is received neither makes nor ends a machine.
-use mathlib.Core.Path.{◌≡◌, refl, ◌∙◌, ap}
+use mathlib.Core.Path.{◌≡◌, refl}
 use mathlib.Core.List.{List, [], ◌∷◌, map}
 use mathlib.Core.Bool.{Bool, true, false, cond}
 use Rattle.model.specs.Applicant.{ApplicantEvent, join, lv, r_new, r_join_in, r_in, r_join_mt, r_mt, r_lv, r_la, Standing, very_anxious_passive, very_anxious_new, anxious_new, anxious_active, quiet_active, leaving_active, becomes}

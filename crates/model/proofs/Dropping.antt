@@ -4,15 +4,15 @@ use mathlib.Core.Path.{◌≡◌, refl, sym, ◌∙◌, ap}
 use mathlib.Core.List.Memᴰ
 use mathlib.Core.List.{List, [], ◌∷◌, map, Memᴰ}
 use mathlib.Core.Logic.{◌⊎◌, inl, inr}
-use mathlib.Core.Bool.{Bool, true, false, cond, ◌&&◌, ◌||◌}
-use Prim.Native.Nat.{ℕ, zero, suc, ◌+◌, ◌-◌, ◌≤◌, ◌<◌}
+use mathlib.Core.Bool.{Bool, true, false, cond, ◌&&◌}
+use Prim.Native.Nat.{ℕ, ◌+◌, ◌-◌, ◌≤◌, ◌<◌}
 use native.Mathlib.Omega.{arith}
 use lib.Dec.{ltb}
 use Rattle.model.specs.Lists.{All, keep}
-use Rattle.model.specs.State.{Settings, Cell, Own, Column, Stream, Bridge, Class, no_class, class_a, class_b, same_class, both_limits, in_force, port_at, cell_at, result_at}
+use Rattle.model.specs.State.{Settings, Own, Column, Stream, Bridge, Class, no_class, class_a, class_b, same_class, both_limits, in_force, port_at, cell_at, result_at}
 use Rattle.model.specs.Registrations.{ids}
 use Rattle.model.specs.Bandwidth.{Claim, key}
-use Rattle.model.specs.Settling.{held, any_sending, is_held, drop_unheld, Source, nowhere, from, source_of, is_source, stream_class, is_advertise, Inbound, add_inbound, inbounds_of, Scene, scene_of, Step, first, outcome_column, steps, claim, by_bandwidth, latency_out, deciding, declare, declaring, settle}
+use Rattle.model.specs.Settling.{held, any_sending, is_held, drop_unheld, Source, nowhere, source_of, stream_class, is_advertise, Inbound, add_inbound, inbounds_of, Scene, scene_of, Step, first, outcome_column, steps, claim, by_bandwidth, latency_out, deciding, declare, declaring, settle}
 use Rattle.model.proofs.Lists.{mem-keep, and-false}
 use Rattle.model.proofs.Valid.{Rising}
 use Rattle.model.proofs.AdvanceKeepsForm.{or-false, unheld-nowhere, nowhere-stops, all-dropped, all-mapped}

@@ -10,7 +10,6 @@ use lib.ListN.{length, get_or, take, replicate}
 use lib.Dec.{eqb}
 use Rattle.octets.specs.Be
 use Rattle.octets.specs.Fields
-use Rattle.octets.specs.Parts
 use Rattle.model.specs.Layout.{cell_index}
 use Rattle.model.specs.Lists.{All}
 use Rattle.model.specs.Lists
@@ -23,7 +22,6 @@ use Rattle.model.specs.Frames
 use Rattle.model.specs.Bandwidth
 use Rattle.model.specs.Settling
 use Rattle.model.specs.Reports.{ColumnWord, none_word, advertise_word, failed_word, Report}
-use Rattle.model.specs.Declarations
 use Rattle.model.specs.Reports
 use Rattle.model.specs.WrittenFrames
 use Rattle.model.specs.Table

@@ -10,8 +10,8 @@ use lib.ListN.{length, get_or}
 use lib.Dec.{eqb, ltb, leb}
 use borrow.Author.Tests.{eq-eqb, ne_eqb, eqb-true, eqb-false, lt-ltb, ltb-true, ltb-false}
 use Rattle.model.specs.Lists.{bit, count_to}
-use Rattle.model.specs.State.{Cell, failed, Stream, fresh, is_port, cell_at}
-use Rattle.model.specs.Settling.{Source, nowhere, from, source_of, is_source, talker_type_of, is_talker_failed, Inbound, inbounds_of, is_inbound, inbound_below, may_bring, is_kept_out, same_address, same_address_at, shares, Scene, is_advertise, step_a, Step, clear, steps_from, steps, claim, left_for, column_of}
+use Rattle.model.specs.State.{Cell, failed, Stream, fresh, cell_at}
+use Rattle.model.specs.Settling.{Source, nowhere, from, source_of, is_source, talker_type_of, is_talker_failed, Inbound, inbounds_of, is_inbound, inbound_below, may_bring, is_kept_out, same_address, same_address_at, shares, Scene, is_advertise, clear, steps_from, steps, claim, left_for, column_of}
 use Rattle.model.specs.Table.{column_code}
 use Rattle.model.proofs.Lists.{and_left}
 use Rattle.model.proofs.ColumnRule.{Pairwise, advertised}

@@ -7,7 +7,7 @@ use Prim.Native.Nat.{ℕ, ◌+◌, ◌*◌, ◌-◌, ◌^◌, ◌<◌}
 use native.Mathlib.Omega.{arith}
 use lib.ListN.{length, get_or}
 use Rattle.octets.specs.Parts.{zeros}
-use Rattle.octets.specs.Fields.{fields, Fit, flat}
+use Rattle.octets.specs.Fields.{fields, Fit}
 use Rattle.octets.proofs.Fields.{fields-of-packed, fit_at}
 use Rattle.model.specs.Layout.{cell_index, cell_size, cell_widths, failure_widths, fixed_widths, name_widths, offer_widths, record_size, result_size, result_widths, sends_size}
 use Rattle.model.specs.Lists.{parts, Octets}

@@ -12,7 +12,7 @@ use borrow.Author.Tests.{lt-ltb, ltb-true}
 use Rattle.model.specs.Lists.{All}
 use Rattle.model.specs.State.{Settings, Fixed, Varying, Talker, no_talker, talker, Cell, failed, Stream, Bridge, unsettled, cell_at, result_at}
 use Rattle.model.specs.Registrations.{Kind, Act, leave_all, leave, talk, listen, hear_all, hear, of_domain, with_leaving, quit_talker, quit, same_fixed, first_join, same_join, other_join, join_talker, does}
-use Rattle.model.specs.Settling.{expired, expire_talker, remain, Source, nowhere, from, source_of, latency_of, first_latency_of, talker_type_of, decide_owns, Scene, clear, is_talker_failed, steps_from, steps, column_of, decide_at, decide, declare, deciding, declaring, settle, Inbound, inbounds_of}
+use Rattle.model.specs.Settling.{expired, expire_talker, remain, Source, nowhere, from, source_of, latency_of, first_latency_of, talker_type_of, decide_owns, Scene, clear, is_talker_failed, steps_from, steps, column_of, decide_at, decide, declare, deciding, declaring, settle, inbounds_of}
 use Rattle.model.specs.Table.{column_code}
 use Rattle.model.proofs.OwnCodes.{gives, earlier, asked, never, once, steps_of, own-decided, own-only}
 use Rattle.model.proofs.AdvanceKeepsForm.{all-mapped, all-dropped}

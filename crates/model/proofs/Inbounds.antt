@@ -1,6 +1,6 @@
 -- What codes 5 and 15 ask, in the request's words (02, x): the tests of their steps hold exactly where the facts do.
 use mathlib.Core.Path.{◌≡◌, refl, sym, ◌∙◌}
-use mathlib.Core.Logic.{◌↔◌, ◌⊎◌, inl, inr}
+use mathlib.Core.Logic.{◌↔◌}
 use mathlib.Core.List.{List, [], ◌∷◌, Memᴰ}
 use mathlib.Core.Bool.{Bool, true, false, not, ◌&&◌, ◌||◌, false≢true}
 use Prim.Native.Nat.{ℕ, ◌≤◌, ◌<◌}

@@ -16,7 +16,7 @@ use Rattle.model.specs.LeaveAll as timer
 use Rattle.model.specs.Places.{is_none, Way, Wrote, each, saying, behind, left_before, write_from, runs, left}
 use Rattle.model.specs.Machines.{Listed, after, way}
 use Rattle.model.specs.State.{no_domain, Talker, no_talker, talker, Listener, no_listener, listener, Cell, Own, Sender, Stream, Bridge, empty, no_own, no_sender, cell_at, sends_at, sender_at, own_at, slot_of}
-use Rattle.model.specs.Registrations.{Kind, advertises, faileds, listeners, at, change, apply_all, apply_owns, talker_stays, listener_stays, registered_in, domain_stays, ids}
+use Rattle.model.specs.Registrations.{Kind, advertises, faileds, listeners, change, apply_all, apply_owns, talker_stays, listener_stays, registered_in, domain_stays, ids}
 use Rattle.model.specs.Settling.{is_talking, is_hearing, held, any_sending, is_held, drop_unheld}
 use Rattle.model.specs.Declarations.{Declaration, talker_declaration, listener_declaration, domain_declaration, talker_kind, declarations, registered_of, is_registered, Said, say, takes}
 use Rattle.model.specs.WrittenFrames.{pdu_octets}

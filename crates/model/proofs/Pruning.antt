@@ -9,13 +9,13 @@ use Prim.Native.Nat.{ℕ, ◌-◌, ◌<◌}
 use native.Mathlib.Omega.{arith}
 use native.Mathlib.Decide.{dec_lt}
 use lib.ListN.{drop}
-use lib.Dec.{eqb, ltb, leb}
+use lib.Dec.{eqb, leb}
 use borrow.Author.Tests.{eqb-true, eqb-false, eq-eqb, ne_eqb}
 use Rattle.model.specs.Lists.{All, tabulate}
 use Rattle.model.specs.State.{Settings, Fixed, TalkerType, talker_advertise, talker_failed, Address, Own, Column, none, advertise, failed, Stream, Bridge, Class, no_class, class_a, class_b, no_own, own_at, cell_at, port_at, is_port, class_of, supports}
 use Rattle.model.specs.Registrations.{AddressAct, does_addresses, change_addresses, AddressReading, refused_frame, address_acts, Answer, owning, macs}
 use Rattle.model.specs.AddressFrames.{address_reading}
-use Rattle.model.specs.Settling.{Scene, Inbound, inbounds_of, decide_own, decide_owns, boundary, holds_address, is_pruned, remain, Origin, Source, nowhere, from, source_of, talker_type_of, stream_class, registered, column_none, StepName, step_a, step_b, step_h, step_i, step_n, own_failure, Step, first, is_talker_failed, failed_column, outcome_column, steps_from, steps, claim, claims, reserved_a, limit_on, left_for, by_bandwidth, column_of, passed, merged, decide_at, decide, total_on, totals_on, drop_unheld, declare, deciding, declaring, settle, Outcome, as_advertise, as_registered, bandwidth_steps, outcome_of, about, flag_of, clear, merge_all}
+use Rattle.model.specs.Settling.{Scene, Inbound, inbounds_of, decide_own, decide_owns, boundary, holds_address, is_pruned, remain, Origin, Source, nowhere, from, source_of, talker_type_of, stream_class, registered, column_none, StepName, step_a, step_b, step_h, step_i, step_n, own_failure, Step, first, is_talker_failed, failed_column, outcome_column, steps_from, steps, claim, claims, reserved_a, limit_on, left_for, by_bandwidth, column_of, passed, merged, decide_at, decide, total_on, totals_on, drop_unheld, declare, deciding, declaring, settle, Outcome, as_advertise, as_registered, bandwidth_steps, outcome_of, about}
 use Rattle.model.specs.Why.{letter, same_step, first_name, last_name, step_on}
 use Rattle.model.specs.Table.{column_number}
 use Rattle.model.specs.Calls.{receive_mmrp}

@@ -1,6 +1,6 @@
 -- An MMRP frame: it changes the addresses of its own port and nothing else, whether it is accepted is decided by what that port
 -- holds, and a refusal changes nothing.
-use mathlib.Core.Path.{◌≡◌, refl, sym, ◌∙◌, ap}
+use mathlib.Core.Path.{◌≡◌, refl, ap}
 use mathlib.Core.Logic.{◌⊎◌, inl, inr}
 use mathlib.Core.List.{List, [], ◌∷◌}
 use mathlib.Core.Bool.{Bool, true, false, cond}

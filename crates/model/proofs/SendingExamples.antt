@@ -1,8 +1,7 @@
 -- Examples of what a port sends (02, xiv): Domain values from start on, a Talker that is new, withdrawn or changed, LeaveAll answered and
 -- not answered, and a stream with an unsent Lv that still counts for 8.
-use mathlib.Core.Path.{◌≡◌, refl}
+use mathlib.Core.Path.{refl}
 use mathlib.Core.List.{List, [], ◌∷◌, ◌++◌}
-use mathlib.Core.Bool.{Bool, true, false, cond}
 use Prim.Native.Nat.{ℕ, zero, suc, ◌-◌, ◌%◌}
 use lib.ListN.{length}
 use Rattle.octets.specs.Fields
@@ -18,7 +17,6 @@ use Rattle.model.specs.Declarations
 use Rattle.model.specs.Writing.{Written}
 use Rattle.model.specs.Writing
 use Rattle.model.specs.Sending
-use Rattle.model.specs.WrittenFrames
 use Rattle.model.proofs.Examples.{Example, Holds, pdu, time, settings, from, hears, lv_pdu, one, handed}
 
 -- What a written PDU has: LeaveAll, then the type, the StreamID's last octet (or class ID) and the event of each declaration, and the next

@@ -6,8 +6,8 @@ use mathlib.Core.Bool.{Bool, true, false, cond}
 use Prim.Native.Nat.{ℕ}
 use lib.Dec.{ltb, leb}
 use borrow.Author.Tests.{lt-ltb, le-ltb, leb-true, leb-false}
-use Rattle.model.specs.State.{Cell, Stream, is_port, cell_at, class_of, is_no_class}
-use Rattle.model.specs.Settling.{Scene, Origin, Source, nowhere, from, source_of, fixed_of, stream_class, Inbound, step_a, step_b, step_c, step_d, step_e, step_f, step_g, step_h, step_i, step_j, step_k, step_l, step_m, step_n, Step, clear, steps_from, steps, claim, left_for, outcome_of, bandwidth_steps, StepName}
+use Rattle.model.specs.State.{Cell, Stream, cell_at, class_of, is_no_class}
+use Rattle.model.specs.Settling.{Scene, Origin, Source, nowhere, from, source_of, fixed_of, stream_class, step_a, step_b, step_c, step_d, step_e, step_f, step_g, step_h, step_i, step_j, step_k, step_l, step_m, step_n, Step, clear, steps_from, steps, claim, left_for, bandwidth_steps}
 use Rattle.model.specs.Why.{first_name, last_name, step_on}
 use Rattle.model.proofs.Why.{name-clear}
 use Rattle.model.proofs.OwnCodes.{gives, earlier, asked, not-asked, steps_of, no-talker}

@@ -8,7 +8,7 @@ use lib.ListN.{length, get_or, length-map}
 use lib.Dec.{eqb}
 use borrow.Author.Tests.{ne_eqb, eqb-true, eqb-false}
 use Rattle.model.specs.Applicant.{Standing, very_anxious_passive, very_anxious_new, anxious_new, anxious_active, quiet_active, leaving_active}
-use Rattle.model.specs.Machines.{Heard, Applicant, no_applicant, applicant, after}
+use Rattle.model.specs.Machines.{Heard, Applicant, no_applicant, applicant}
 use Rattle.model.specs.State.{stays, since, Fixed, Varying, Ready, Domain, no_domain, domain, Own, Sends, Stream, Settings, Bridge, no_own, sends_at, sender_at, own_at, slot_of}
 use Rattle.model.specs.Registrations.{Kind, advertises, faileds, listeners, Act, leave_all, leave, talk, listen, hear_all, hear, of_domain, DomainAct, leave_all_domains, leave_domain, join_domain, hear_all_domains, hear_domain, quit_domain, does_domain, change_domains, apply_own, apply_owns, domain_stays, begin, is_staying, at}
 use Rattle.model.specs.Frames.{Asking, nothing_asked, join, withdraw}

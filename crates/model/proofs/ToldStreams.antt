@@ -11,7 +11,7 @@ use borrow.Author.Tests.{eq-eqb, ne_eqb, eqb-true, eqb-false}
 use Rattle.model.specs.Lists.{All, keep}
 use Rattle.model.specs.Applicant.{tx, Standing, very_anxious_passive, very_anxious_new, anxious_new, anxious_active, quiet_active, leaving_active, speaks, spoken, opportunity}
 use Rattle.model.specs.Places.{saying}
-use Rattle.model.specs.Machines.{Heard, Listed, Applicant, no_applicant, applicant, after}
+use Rattle.model.specs.Machines.{Heard, Listed, Applicant, no_applicant, applicant}
 use Rattle.model.specs.State.{Cell, Sends, Stream, Settings, Bridge, empty, blank, fresh, no_sends, sends_at, sender_at}
 use Rattle.model.specs.Registrations.{Kind, advertises, faileds, listeners, Act, leave_all, leave, talk, listen, hear_all, hear, of_domain, quit_talker, quit_listener, quit, does, moves, at, change, touch, begun, reach, apply, apply_all, ids, joins}
 use Rattle.model.specs.Frames.{Asking, nothing_asked, join, withdraw, asking, event, heard_of}

@@ -14,7 +14,7 @@ use Rattle.model.specs.LeaveAll as timer
 use Rattle.model.specs.Places.{is_none, Wrote, itself, each, saying, write_from}
 use Rattle.model.specs.Machines.{heard_leave, heard_event, Listed, Applicant, no_applicant, applicant, undeclared, with, applicant_of, after, decided, moved, heard, way}
 use Rattle.model.specs.State.{Leaving, stays, since, Fixed, Varying, Registration, Talker, no_talker, talker, Ready, Listener, no_listener, listener, Cell, no_domain, Own, Sends, Sender, Stream, Settings, Bridge, empty, blank, fresh, no_sender, no_own, sends_at, sender_at}
-use Rattle.model.specs.Registrations.{Kind, advertises, faileds, Act, leave_all, apply_own, apply_owns, talks_as, with_leaving, quit_talker, talker_stays, listener_stays, at, apply, apply_all, apply_senders, Answer, acts, holding, owning, sending, received}
+use Rattle.model.specs.Registrations.{Kind, advertises, faileds, Act, apply_own, apply_owns, talks_as, with_leaving, quit_talker, talker_stays, listener_stays, apply, apply_all, apply_senders, Answer, acts, holding, owning, sending, received}
 use Rattle.model.specs.Frames.{wrong_port, reading}
 use Rattle.model.specs.Settling.{expired, expire_talker, expire_listener, expire_cell}
 use Rattle.model.specs.Declarations.{Declaration, declarations, Said, say, said_acts, is_registered}
@@ -32,7 +32,6 @@ use Rattle.model.proofs.WrittenList.{ListedPort, write-leaves}
 use Rattle.model.proofs.WriteKeepsForm.{after-valid}
 use Rattle.model.proofs.ReadBack.{neighbour-reads-events}
 use Rattle.model.proofs.ApplicantEntries.{tables}
-use Rattle.model.proofs.Commute.{more}
 use Rattle.model.proofs.ToldStreams.{stream_for, cell_for, cell-after, Effect, on_cell, asks_acts, flat_append, saying-asks, run-asks, both-tell, tells, tells_cell, port-tells}
 use Rattle.model.proofs.Following.{Registers, stands-map, offered, advertised, failed_offer, failed_as, Known, Follows, cell-follows}
 use Rattle.model.proofs.ToldDomains.{domain_for, Slot, slot-after, on_slot, tells_slot, port-tells-slot, KnownSlot, FollowsSlot, slot-follows}

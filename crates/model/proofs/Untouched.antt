@@ -8,7 +8,7 @@ use Prim.Native.Nat.{ℕ, ◌<◌}
 use lib.ListN.{length, get_or}
 use Rattle.model.specs.State.{Settings, Fixed, Own, Stream, Bridge, fresh, unsettled, stream_at, result_at, Class, no_class, class_a, class_b, class_of, in_force, port_at, cell_at, own_at}
 use Rattle.model.specs.Bandwidth.{key, above, remains}
-use Rattle.model.specs.Settling.{Scene, Inbound, inbounds_of, shares, is_kept_out, decide_owns, remain, Source, nowhere, from, source_of, fixed_of, stream_class, boundary, holds_address, is_pruned, steps_from, steps, claim, claims, reserved_a, limit_on, left_for, column_of, decide_at, decide, total_on, deciding, settle}
+use Rattle.model.specs.Settling.{Scene, Inbound, inbounds_of, decide_owns, remain, Source, nowhere, from, source_of, fixed_of, stream_class, boundary, holds_address, is_pruned, steps_from, steps, claim, claims, reserved_a, limit_on, left_for, column_of, decide_at, decide, total_on, deciding}
 use Rattle.model.specs.Table.{column_code}
 use Rattle.model.proofs.Lists.{get_or_map, at_place}
 use Rattle.model.proofs.ColumnRule.{reserved-a}

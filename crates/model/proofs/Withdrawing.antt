@@ -1,5 +1,5 @@
 -- What was sent is withdrawn by an Lv or a LeaveAll, other content in between or not: of one machine through any history, and of any list.
-use mathlib.Core.Path.{◌≡◌, refl, sym, ◌∙◌, ap}
+use mathlib.Core.Path.{◌≡◌, refl, sym, ◌∙◌}
 use mathlib.Core.List.{List, [], ◌∷◌, map}
 use mathlib.Core.Bool.{Bool, true, false, cond, ◌&&◌, false≢true}
 use Rattle.model.specs.Lists.{All, all_true, implies}

@@ -11,7 +11,7 @@ use lib.Dec.{leb, ltb, eqb}
 use borrow.Author.Tests.{le-leb}
 use Rattle.model.specs.FrameLayout.{longest_pdu}
 use Rattle.model.specs.Lists.{All, bit, keep}
-use Rattle.model.specs.Applicant.{tx_laf, tx, opportunity, Standing, very_anxious_passive, very_anxious_new, anxious_new, anxious_active, quiet_active, leaving_active, becomes}
+use Rattle.model.specs.Applicant.{tx_laf, opportunity, Standing, very_anxious_passive, very_anxious_new, anxious_new, anxious_active, quiet_active, leaving_active, becomes}
 use Rattle.model.specs.LeaveAll as timer
 use Rattle.model.specs.Machines.{Applicant, no_applicant, applicant, with, applicant_of, moved}
 use Rattle.model.specs.State.{Talker, no_talker, talker, Listener, no_listener, listener, Cell, Domain, Result, Sends, Sender, Stream, Bridge, no_sends, no_sender, cell_at, result_at, sends_at, sender_at, own_at, declares_slot}

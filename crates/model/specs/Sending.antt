@@ -1,6 +1,6 @@
 -- What a port sends, as octets and back (docs/TABLE.md): an Applicant is one octet of its state, then the values last declared, zeros
 -- where there is none. The number behind a rule is its number in docs/TABLE.md.
-use Rattle.std.specs.Prelude.{List, [], ◌∷◌, ◌++◌, Bool, true, false, cond, ◌&&◌, ◌||◌, ℕ, zero, suc, ◌+◌, ◌%◌, get_or, take, drop, eqb, leb, ltb}
+use Rattle.std.specs.Prelude.{List, [], ◌∷◌, ◌++◌, Bool, true, cond, ◌&&◌, ◌||◌, ℕ, zero, suc, ◌+◌, ◌%◌, get_or, take, drop, eqb, leb, ltb}
 use Rattle.octets.specs.Parts.{zeros}
 use Rattle.octets.specs.Fields.{fields, packed, flat}
 use Rattle.model.specs.Layout.{advertising_size, applicant_size, failed_size, failing_size, failure_widths, in_sender, leave_all_widths, offer_size, offer_widths, ready_size, slots}

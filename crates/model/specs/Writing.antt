@@ -1,5 +1,5 @@
 -- A write (01, "Writing"; 02, xiv): what one PDU says, how the machines of the port move by it, and the next place.
-use Rattle.std.specs.Prelude.{List, [], ◌∷◌, map, Bool, true, false, cond, ◌&&◌, ℕ, suc, ◌+◌, ◌-◌, length, get_or, drop, ltb, leb}
+use Rattle.std.specs.Prelude.{List, [], ◌∷◌, map, Bool, true, false, cond, ◌&&◌, ℕ, ◌+◌, ◌-◌, length, drop, ltb, leb}
 use Rattle.model.specs.Lists.{bit}
 use Rattle.model.specs.Applicant.{tx_laf, opportunity, Standing, becomes}
 use Rattle.model.specs.LeaveAll as timer

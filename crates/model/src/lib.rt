@@ -1,5 +1,6 @@
 // The definitions of the bridge stand in specs/, the theorems about them in proofs/. The toolchain wants one function in
 // a crate.
+#![tactic(auto)]
 
 ghost use Rattle.std.specs.Prelude.{◌≡◌};
 

@@ -1,24 +1,21 @@
 -- Where the span of a write is what the model says, what its moves leave is what the model's write leaves.
 use mathlib.Core.Path.{◌≡◌, refl, sym, ◌∙◌, ap, ap₂}
-use mathlib.Core.List.{List, [], ◌∷◌, ◌++◌, map}
-use mathlib.Core.Bool.{Bool, true, false, cond, ◌&&◌}
-use Prim.Native.Nat.{ℕ, suc, ◌+◌, ◌/◌, ◌%◌, ◌≤◌, ◌<◌}
+use mathlib.Core.List.{List, [], ◌∷◌, ◌++◌}
+use mathlib.Core.Bool.{Bool, cond, ◌&&◌}
+use Prim.Native.Nat.{ℕ, ◌+◌, ◌≤◌, ◌<◌}
 use native.Mathlib.Nat.{add-zero, zero-add}
 use native.Mathlib.Omega.{arith}
-use lib.ListN.{length, get_or, take, drop, take-append-drop, length-append}
+use lib.ListN.{length, take, drop, take-append-drop, length-append}
 use lib.Seq.{length-take-le}
 use lib.Dec.{leb, ltb}
 use borrow.Author.Tests.{lt-ltb, le-ltb, le-leb, lt-leb}
-use Rattle.model.specs.Lists.{All}
-use Rattle.model.specs.Applicant.{tx_laf, opportunity, becomes}
 use Rattle.model.specs.Places as places
 use Rattle.model.specs.Places.{Way, itself, each, saying, reached, behind, write_from}
-use Rattle.model.specs.Machines.{Listed, with, after, way}
-use Rattle.model.specs.State.{Bridge, no_domain, cell_at, sender_at, own_at, slot_of}
-use Rattle.model.specs.Registrations.{Kind, advertises, faileds, listeners, registered_in, domain_stays}
-use Rattle.model.specs.Declarations.{Declaration, talker_kind, advertise_of, failed_of, of_kind, domain_of, domain_values, declarations, is_registered}
+use Rattle.model.specs.Machines.{Listed}
+use Rattle.model.specs.State.{Bridge, sender_at, own_at}
+use Rattle.model.specs.Registrations.{advertises, faileds, listeners}
+use Rattle.model.specs.Declarations.{Declaration, of_kind, domain_values, declarations, is_registered}
 use Rattle.model.specs.Writing.{leaves_all, port_way, takes_on, wrote_on, end_on, moved_at, after_write}
-use Rattle.model.proofs.Lists.{all_map}
 use Rattle.model.proofs.PlaceLists.{reached-behind}
 use Rattle.model.proofs.WrittenList.{each_at, at-append, at-alike, at_same, at_place, left-by-way, asks, asks-domains, ListedPort}
 use Rattle.moving.specs.declared.Span.{Span}

@@ -2,15 +2,15 @@
 use mathlib.Core.Path.{◌≡◌, refl, sym, ◌∙◌, ap, ap₂}
 use mathlib.Core.List.{List, [], ◌∷◌, ◌++◌, map}
 use mathlib.Core.Bool.{Bool, true, false, cond}
-use Prim.Native.Nat.{ℕ, suc, ◌+◌, ◌≤◌, ◌<◌}
+use Prim.Native.Nat.{ℕ, suc, ◌+◌, ◌≤◌}
 use native.Mathlib.Nat.{add-zero}
 use native.Mathlib.Omega.{arith}
-use lib.ListN.{length, get_or, length-append}
+use lib.ListN.{length, length-append}
 use lib.Dec.{ltb}
 use Rattle.model.specs.Lists.{All, bit}
 use Rattle.model.specs.Applicant.{Standing}
 use Rattle.model.specs.Machines.{Listed, Applicant, no_applicant, applicant, with, applicant_of, moved}
-use Rattle.model.specs.State.{Settings, Domain, no_domain, Ready, Offer, Failure, Sends, Stream, no_sends, cell_at, sends_at}
+use Rattle.model.specs.State.{Settings, Domain, Sends, Stream, no_sends, cell_at, sends_at}
 use Rattle.model.specs.Registrations.{Kind, advertises, faileds, listeners, at, change, move_kind, registered_in, domain_stays}
 use Rattle.model.specs.Settling.{is_applicant}
 use Rattle.model.specs.Declarations.{Declaration, listener_declaration, listed_as, advertise_of, failed_of, declarations_of, of_kind, domain_of, domain_values}

@@ -1,5 +1,7 @@
 // What a write does to the machines of its port (02, xiv): those that its PDU reaches get tx!, or with LeaveAll tx_la!, and all others
 // then tx_laf!; with LeaveAll the port's own registrations begin to leave; a stream that has neither a registration nor a machine goes.
+#![tactic(auto)]
+
 ghost use Rattle.std.specs.Prelude.{◌≡◌, eqb, true, cond, not, ℕ, ◌+◌, ◌≤◌, ◌<◌, length};
 ghost use Rattle.model.specs.Lists.{bit};
 ghost use Rattle.model.specs.Layout.{sends_size, sender_size};

@@ -1,4 +1,6 @@
 // The reader of MSRPDUs (01, "The PDU"): each function's answer is that of the definitions in crate model, for every input.
+#![tactic(auto)]
+
 ghost use Rattle.std.specs.Prelude.{◌≡◌, ◌+◌, ◌^◌, ◌≤◌, ◌<◌, length, get_or};
 ghost use Rattle.model.specs.Frames.{type_octet, four_length, overpacked, header_in, walk, three_packed};
 ghost use Rattle.msrpdu.specs.Reader.{type_read, head_of, strange_read, vector_read, typed_read, first_part, message_meant, message_read, number_of, event_in, four_in, past_field, stream_id_in, domain_in};

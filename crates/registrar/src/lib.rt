@@ -1,4 +1,6 @@
 // The walk that applies a frame to the table (01, "Registering" and number 8).
+#![tactic(auto)]
+
 ghost use Rattle.std.specs.Prelude.{◌≡◌, true, false, ◌∷◌, [], map, ℕ, suc, ◌<◌, length};
 ghost use Rattle.model.specs.Lists.{All};
 ghost use Rattle.model.specs.State.{stays, domain};

@@ -1,4 +1,6 @@
 // What a report shows of a port, and of a stream there. Ports p and streams k are counted from 0.
+#![tactic(auto)]
+
 ghost use Rattle.std.specs.Prelude.{◌≡◌, ◌+◌};
 ghost use Rattle.model.specs.State.{stream_at};
 ghost use Rattle.model.specs.Reports.{word_of, refused_report, report};

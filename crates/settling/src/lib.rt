@@ -2,6 +2,8 @@
 // each port finds whether it is at the edge of a class's domain; then each stream is decided, bandwidth is shared out on each port, and
 // each stream's Talker port declares the merged Listener. Last the Applicants get Join! of what was decided and Lv! of what was not,
 // streams that are neither registered nor sent are dropped, and LeaveAll timers run out.
+#![tactic(auto)]
+
 ghost use Rattle.std.specs.Prelude.{◌≡◌, map, cond, ◌<◌, length};
 ghost use Rattle.model.specs.Layout.{failed_size, own_size, result_size};
 ghost use Rattle.model.specs.Lists.{tabulate};

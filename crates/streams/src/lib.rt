@@ -1,4 +1,6 @@
 // What the stages of settling share of a stream: its class, its Talker port, and its demand as a rate.
+#![tactic(auto)]
+
 ghost use Rattle.std.specs.Prelude.{◌≡◌, ◌≤◌, ◌<◌, ◌^◌, length};
 ghost use Rattle.model.specs.Layout.{fixed_size, port_size};
 ghost use Rattle.model.specs.State.{class_of};

@@ -1,5 +1,7 @@
 // The caller's table: its layout; each part of it by the place k of a stream and the place p of a port, read where a function hands
 // it out, changed at the address that another gives; and its stream records found, put in and dropped.
+#![tactic(auto)]
+
 ghost use Rattle.std.specs.Prelude.{◌≡◌, ◌+◌, ◌*◌, ◌^◌, ◌≤◌, ◌<◌, length, replicate};
 ghost use Rattle.octets.specs.Parts.{part, patch};
 ghost use Rattle.model.specs.Layout.{cell_place, cell_size, fixed_size, priority_b_unit, record_place, record_size, own_place, own_size, port_size, result_place, result_size, sender_place, sender_size, sends_place, sends_size, settled_of, slot_place, slot_size, table_length, total_place, total_size};

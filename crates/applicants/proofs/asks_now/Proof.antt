@@ -1,5 +1,5 @@
 -- `applicants::asks_now` meets its contract: each arm is an entry of the table. Assumes nothing.
-use mathlib.Core.Path.{◌≡◌, refl}
+use mathlib.Core.Path.{refl}
 use native.Mathlib.Omega.{arith}
 use Rattle.model.specs.Applicant.{tx}
 use Rattle.model.proofs.ApplicantEntries.{tables, asks-leaving}

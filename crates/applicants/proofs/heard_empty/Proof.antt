@@ -1,5 +1,5 @@
 -- `applicants::heard_empty` meets its contract: each arm is an entry of the table. Assumes nothing.
-use mathlib.Core.Path.{◌≡◌, refl}
+use mathlib.Core.Path.{refl}
 use mathlib.Core.Bool.{false}
 use native.Mathlib.Omega.{arith}
 use Rattle.model.specs.Applicant.{r_join_mt}

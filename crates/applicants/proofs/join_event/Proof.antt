@@ -1,5 +1,5 @@
 -- `applicants::join_event` meets its contract. Assumes nothing.
-use mathlib.Core.Path.{◌≡◌, refl}
+use mathlib.Core.Path.{refl}
 use native.Mathlib.Omega.{arith}
 use Rattle.model.proofs.ApplicantEntries.{tables}
 use Rattle.applicants.proofs.join_event.Statement.{statement}

@@ -1,5 +1,5 @@
 -- `applicants::left_out` meets its contract: each arm is an entry of the table. Assumes nothing.
-use mathlib.Core.Path.{◌≡◌, refl}
+use mathlib.Core.Path.{refl}
 use mathlib.Core.Bool.{false}
 use native.Mathlib.Omega.{arith}
 use Rattle.model.specs.Applicant.{tx_laf}

@@ -1,5 +1,5 @@
 -- `applicants::written` meets its contract: each arm is an entry of the table. Assumes nothing.
-use mathlib.Core.Path.{◌≡◌, refl}
+use mathlib.Core.Path.{refl}
 use native.Mathlib.Omega.{arith}
 use borrow.Author.Rules.{rules}
 use Rattle.model.specs.Applicant.{tx}

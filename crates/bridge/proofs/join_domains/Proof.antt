@@ -1,9 +1,6 @@
 -- `bridge::join_domains` meets its contract. Assumes nothing.
-use Prim.Native.Nat.{◌<◌}
-use mathlib.Core.Path.{◌≡◌}
 use native.Mathlib.Omega.{arith}
 use borrow.Author.Rules.{rules}
-use Rattle.model.specs.Table.{decode}
 use Rattle.model.proofs.Fits.{laid-fits}
 use Rattle.streams.specs.Answers.{class_shown}
 use Rattle.bridge.proofs.Joining.{then-in, both-done}

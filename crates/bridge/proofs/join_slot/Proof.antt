@@ -1,6 +1,5 @@
 -- `bridge::join_slot` meets its contract. Assumes nothing.
 use borrow.Author.Rules.{rules}
-use native.Mathlib.Omega.{arith}
 use Rattle.bridge.proofs.Joining.{slot-joined}
 use Rattle.bridge.proofs.join_slot.Statement.{statement}
 use Rattle.bridge.proofs.join_slot.Tie as tie

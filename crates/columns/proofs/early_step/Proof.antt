@@ -9,7 +9,7 @@ use Rattle.model.specs.Why.{first_name}
 use Rattle.table.specs.Updates.{stream_at}
 use Rattle.columns.specs.Steps.{step_shown, steps_before}
 use Rattle.columns.specs.Places.{SceneOn}
-use Rattle.columns.proofs.Steps.{no-port, all, none-but-i, goes-no-further, goes_on, same-failure}
+use Rattle.columns.proofs.Steps.{no-port, all, goes-no-further, goes_on, same-failure}
 use Rattle.columns.proofs.Talkers.{source-read, size-read}
 use Rattle.columns.proofs.early_step.Statement.{statement}
 use Rattle.columns.proofs.early_step.Tie as tie

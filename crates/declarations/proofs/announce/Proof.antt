@@ -1,9 +1,5 @@
 -- `declarations::announce` meets its contract. Assumes nothing.
-use mathlib.Core.Path.{◌≡◌, refl, sym, ap, ◌∙◌}
-use Prim.Native.Nat.{ℕ, ◌+◌, ◌-◌, ◌*◌, ◌≤◌, ◌<◌}
-use native.Mathlib.Omega.{arith}
-use mathlib.Core.List.{List, []}
-use lib.ListN.{length, get_or, take, drop}
+use mathlib.Core.Path.{sym, ◌∙◌}
 use Rattle.octets.specs.Parts.{patch}
 use Rattle.declarations.specs.Vectors.{announced}
 use borrow.Author.Rules.{rules}

@@ -1,9 +1,5 @@
 -- `declarations::count_declarations` meets its contract. Assumes nothing.
-use mathlib.Core.Path.{◌≡◌, refl, sym, ap, ◌∙◌}
-use Prim.Native.Nat.{ℕ, ◌+◌, ◌-◌, ◌*◌, ◌≤◌, ◌<◌}
 use native.Mathlib.Omega.{arith}
-use mathlib.Core.List.{List, []}
-use lib.ListN.{length, get_or, take, drop}
 use mathlib.Core.List.{◌++◌}
 use lib.ListN.{length-append}
 use Rattle.model.specs.State.{sender_at}

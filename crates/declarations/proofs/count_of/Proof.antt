@@ -1,10 +1,9 @@
 -- `declarations::count_of` meets its contract. Assumes nothing.
-use mathlib.Core.Path.{◌≡◌, refl, sym, ap, ◌∙◌}
-use Prim.Native.Nat.{ℕ, ◌+◌, ◌-◌, ◌*◌, ◌≤◌, ◌<◌}
+use mathlib.Core.Path.{◌≡◌, sym, ap, ◌∙◌}
+use Prim.Native.Nat.{ℕ, ◌+◌, ◌-◌, ◌≤◌, ◌<◌}
 use native.Mathlib.Omega.{arith}
-use mathlib.Core.List.{List, []}
-use lib.ListN.{length, get_or, take, drop}
-use borrow.Author.Tests.{not-true, not-false}
+use mathlib.Core.List.{List}
+use lib.ListN.{length}
 use Rattle.model.specs.Table.{decode}
 use Rattle.declarations.specs.declared.Attribute.{Attribute}
 use Rattle.declarations.specs.Passes.{type, declarers, machines_from}

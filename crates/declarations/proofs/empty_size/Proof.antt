@@ -1,10 +1,7 @@
 -- `declarations::empty_size` meets its contract. Assumes nothing.
-use mathlib.Core.Path.{◌≡◌, refl}
-use mathlib.Core.Bool.{false}
-use Prim.Native.Nat.{◌≤◌}
+use mathlib.Core.Path.{refl}
 use native.Mathlib.Omega.{arith}
 use borrow.Author.Rules.{rules}
-use borrow.Author.Tests.{not-true, not-false}
 use Rattle.model.specs.Frames.{first_length}
 use Rattle.model.specs.Declarations.{empty_size}
 use Rattle.declarations.specs.Passes.{type}

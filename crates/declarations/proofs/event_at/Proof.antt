@@ -1,5 +1,4 @@
 -- `declarations::event_at` meets its contract. Assumes nothing.
-use Prim.Native.Nat.{◌*◌}
 use mathlib.Core.Path.{◌≡◌}
 use native.Mathlib.Omega.{arith}
 use borrow.Author.Rules.{rules}

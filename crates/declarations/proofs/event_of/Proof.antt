@@ -1,9 +1,5 @@
 -- `declarations::event_of` meets its contract. Assumes nothing.
-use mathlib.Core.Path.{◌≡◌, refl, sym, ap, ◌∙◌}
-use Prim.Native.Nat.{ℕ, ◌+◌, ◌-◌, ◌*◌, ◌≤◌, ◌<◌}
-use native.Mathlib.Omega.{arith}
-use mathlib.Core.List.{List, []}
-use lib.ListN.{length, get_or, take, drop}
+use mathlib.Core.Path.{◌∙◌}
 use Rattle.model.specs.Table.{decode}
 use Rattle.model.proofs.Fits.{laid-fits}
 use Rattle.declarations.specs.Passes.{type}

@@ -1,17 +1,10 @@
 -- `declarations::finish` meets its contract. Assumes nothing.
-use mathlib.Core.Path.{◌≡◌, refl, sym, ap, ◌∙◌}
-use Prim.Native.Nat.{ℕ, ◌+◌, ◌-◌, ◌*◌, ◌/◌, ◌%◌, ◌≤◌, ◌<◌}
+use mathlib.Core.Path.{refl, ap, ◌∙◌}
+use Prim.Native.Nat.{ℕ, ◌-◌}
 use native.Mathlib.Omega.{arith}
-use mathlib.Core.List.{List, []}
-use lib.ListN.{length, get_or, take, drop}
-use mathlib.Core.List.{◌∷◌, ◌++◌}
-use mathlib.Core.Bool.{Bool}
-use Rattle.octets.specs.Parts.{part}
-use Rattle.octets.proofs.Parts.{lent-part, length_part, length-patch}
-use Rattle.octets.proofs.Patches.{lent-patch}
-use Rattle.model.specs.Frames.{Attribute}
+use lib.ListN.{length}
+use Rattle.octets.proofs.Parts.{lent-part, length_part}
 use Rattle.model.specs.Writing.{leaves_all}
-use Rattle.model.specs.WrittenFrames.{message_of}
 use Rattle.model.specs.Table.{decode}
 use Rattle.declarations.specs.Vectors.{announced}
 use Rattle.declarations.specs.Passes.{type}

@@ -1,10 +1,8 @@
 -- `declarations::gather` meets its contract. Assumes nothing.
-use mathlib.Core.Path.{◌≡◌, refl, sym, ap, ◌∙◌}
-use Prim.Native.Nat.{ℕ, ◌+◌, ◌-◌, ◌*◌, ◌≤◌, ◌<◌}
+use mathlib.Core.Path.{◌≡◌, refl, sym, ◌∙◌}
+use Prim.Native.Nat.{◌-◌, ◌≤◌, ◌<◌}
 use native.Mathlib.Omega.{arith}
-use mathlib.Core.List.{List, []}
-use lib.ListN.{length, get_or, take, drop}
-use borrow.Author.Tests.{not-true, not-false}
+use lib.ListN.{length, take}
 use lib.ListN.{length-set}
 use Rattle.model.specs.Registrations.{listeners}
 use Rattle.model.specs.Frames.{registers}

@@ -1,13 +1,6 @@
 -- `declarations::is_registered` meets its contract. Assumes nothing.
-use mathlib.Core.Path.{◌≡◌, refl, sym, ap, ◌∙◌}
-use Prim.Native.Nat.{ℕ, ◌+◌, ◌-◌, ◌*◌, ◌≤◌, ◌<◌}
 use native.Mathlib.Omega.{arith}
-use mathlib.Core.List.{List, []}
-use lib.ListN.{length, get_or, take, drop}
-use Rattle.model.specs.Registrations.{Kind, advertises, faileds, listeners}
-use Rattle.model.specs.Frames.{registers, domain_type}
-use Rattle.table.specs.Places.{StandsOn, PortIn, SlotIn}
-use Rattle.declarations.specs.Passes.{type, declarers, Declarer}
+use Rattle.declarations.specs.Passes.{type}
 use Rattle.declarations.proofs.Places.{stream, slot}
 use Rattle.declarations.specs.Passes.{registered_by, talker_of}
 use borrow.Author.Rules.{rules}

@@ -4,7 +4,6 @@ use mathlib.Core.Bool.{false}
 use Prim.Native.Nat.{◌≤◌}
 use native.Mathlib.Omega.{arith}
 use borrow.Author.Rules.{rules}
-use borrow.Author.Tests.{not-true, not-false}
 use Rattle.model.specs.Frames.{first_length}
 use Rattle.model.specs.Declarations.{empty_size}
 use Rattle.declarations.specs.declared.Attribute.{Attribute}

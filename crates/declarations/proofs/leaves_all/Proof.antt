@@ -1,8 +1,5 @@
 -- `declarations::leaves_all` meets its contract. Assumes nothing.
-use Prim.Native.Nat.{ℕ}
-use mathlib.Core.Path.{ap}
 use borrow.Author.Rules.{rules}
-use lib.Dec.{eqb}
 use Rattle.declarations.proofs.Senders.{active-octet}
 use Rattle.declarations.proofs.leaves_all.Statement.{statement}
 use Rattle.declarations.proofs.leaves_all.Tie as tie

@@ -1,9 +1,7 @@
 -- `declarations::listener_event` meets its contract. Assumes nothing.
-use mathlib.Core.Path.{◌≡◌, refl, sym, ap, ◌∙◌}
-use Prim.Native.Nat.{ℕ, ◌+◌, ◌-◌, ◌*◌, ◌≤◌, ◌<◌}
+use mathlib.Core.Path.{sym, ◌∙◌}
 use native.Mathlib.Omega.{arith}
-use mathlib.Core.List.{List, []}
-use lib.ListN.{length, get_or, take, drop}
+use lib.ListN.{get_or}
 use Rattle.model.specs.Table.{decode}
 use Rattle.model.proofs.Lists.{all-at}
 use Rattle.cutting.proofs.Named.{named-at}

@@ -1,10 +1,4 @@
 -- `declarations::pass` meets its contract. Assumes nothing.
-use mathlib.Core.Path.{◌≡◌, refl, sym, ap, ◌∙◌}
-use Prim.Native.Nat.{ℕ, ◌+◌, ◌-◌, ◌*◌, ◌/◌, ◌%◌, ◌≤◌, ◌<◌}
-use native.Mathlib.Omega.{arith}
-use mathlib.Core.List.{List, []}
-use mathlib.Core.Bool.{Bool}
-use lib.ListN.{length, get_or, take, drop}
 use borrow.Author.Tests.{not-true, not-false}
 use Rattle.declarations.specs.Passes.{type}
 use Rattle.declarations.proofs.Written.{pass-full}

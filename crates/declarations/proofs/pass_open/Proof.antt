@@ -1,11 +1,5 @@
 -- `declarations::pass_open` meets its contract. Assumes nothing.
-use mathlib.Core.Path.{◌≡◌, refl, sym, ap, ◌∙◌}
-use Prim.Native.Nat.{ℕ, ◌+◌, ◌-◌, ◌*◌, ◌/◌, ◌%◌, ◌≤◌, ◌<◌}
 use native.Mathlib.Omega.{arith}
-use mathlib.Core.List.{List, []}
-use mathlib.Core.Bool.{Bool}
-use lib.ListN.{length, get_or, take, drop}
-use Rattle.model.specs.Table.{decode}
 use Rattle.declarations.specs.Passes.{type}
 use Rattle.declarations.proofs.Written.{pass-open}
 use borrow.Author.Rules.{rules}

@@ -1,16 +1,13 @@
 -- `declarations::seek` meets its contract. Assumes nothing.
 use mathlib.Core.Path.{◌≡◌, refl, sym, ap, ◌∙◌}
-use Prim.Native.Nat.{ℕ, ◌+◌, ◌-◌, ◌*◌, ◌≤◌, ◌<◌}
+use Prim.Native.Nat.{ℕ, ◌+◌, ◌-◌, ◌≤◌, ◌<◌}
 use native.Mathlib.Omega.{arith}
 use mathlib.Core.List.{List, []}
-use lib.ListN.{length, get_or, take, drop}
-use borrow.Author.Tests.{not-true, not-false}
+use lib.ListN.{length, drop}
 use Rattle.model.specs.Table.{decode}
 use Rattle.declarations.specs.declared.Attribute.{Attribute}
 use lib.Seq.{drop-nil}
-use Rattle.model.specs.Machines.{Listed}
-use Rattle.model.specs.Declarations.{Declaration}
-use Rattle.declarations.specs.Passes.{type, declarers, machines_from, all_of}
+use Rattle.declarations.specs.Passes.{type, declarers, machines_from}
 use Rattle.declarations.proofs.Declared.{machines-first, machines-end, no-machine, machine-counted, machine-passed}
 use borrow.Author.Rules.{rules}
 use Rattle.declarations.proofs.seek.Statement.{statement}

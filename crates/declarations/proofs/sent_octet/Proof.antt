@@ -1,9 +1,8 @@
 -- `declarations::sent_octet` meets its contract. Assumes nothing.
-use mathlib.Core.Path.{◌≡◌, refl, sym, ap, ◌∙◌}
-use Prim.Native.Nat.{ℕ, ◌+◌, ◌-◌, ◌*◌, ◌≤◌, ◌<◌}
-use native.Mathlib.Omega.{arith}
-use mathlib.Core.List.{List, []}
-use lib.ListN.{length, get_or, take, drop}
+use mathlib.Core.Path.{ap}
+use Prim.Native.Nat.{ℕ}
+use mathlib.Core.List.{List}
+use lib.ListN.{get_or}
 use Rattle.declarations.proofs.Vectors.{sends-is}
 use borrow.Author.Rules.{rules}
 use Rattle.declarations.proofs.sent_octet.Statement.{statement}

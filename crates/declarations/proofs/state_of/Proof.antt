@@ -1,15 +1,8 @@
 -- `declarations::state_of` meets its contract. Assumes nothing.
-use mathlib.Core.Path.{◌≡◌, refl, sym, ap, ◌∙◌}
-use Prim.Native.Nat.{ℕ, ◌+◌, ◌-◌, ◌*◌, ◌≤◌, ◌<◌}
+use mathlib.Core.Path.{◌∙◌}
 use native.Mathlib.Omega.{arith}
-use mathlib.Core.List.{List, []}
-use lib.ListN.{length, get_or, take, drop}
-use Rattle.model.specs.Registrations.{Kind, advertises, faileds, listeners}
-use Rattle.model.specs.Frames.{registers, domain_type}
-use Rattle.table.specs.Places.{StandsOn, PortIn, SlotIn}
-use Rattle.declarations.specs.Passes.{type, declarers, Declarer}
+use Rattle.declarations.specs.Passes.{type}
 use Rattle.declarations.proofs.Places.{stream, slot}
-use Rattle.declarations.specs.Passes as passes
 use Rattle.declarations.proofs.Vectors.{advertising-state, failing-state, listening-state}
 use borrow.Author.Rules.{rules}
 use Rattle.declarations.proofs.state_of.Statement.{statement}

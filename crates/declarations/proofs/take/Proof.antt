@@ -1,10 +1,5 @@
 -- `declarations::take` meets its contract. Assumes nothing.
-use mathlib.Core.Path.{◌≡◌, refl, sym, ap, ◌∙◌}
-use Prim.Native.Nat.{ℕ, ◌+◌, ◌-◌, ◌*◌, ◌/◌, ◌%◌, ◌≤◌, ◌<◌}
-use native.Mathlib.Omega.{arith}
-use mathlib.Core.List.{List, []}
-use mathlib.Core.Bool.{Bool}
-use lib.ListN.{length, get_or, take, drop}
+use mathlib.Core.Path.{◌≡◌, refl}
 use mathlib.Core.Logic.{◌⊎◌, ⊎_elim}
 use Rattle.declarations.specs.declared.Attribute.{Attribute}
 use Rattle.declarations.specs.declared.Attribute.TheVariants.{Advertise, Failed, Domain}

@@ -1,10 +1,9 @@
 -- `declarations::take_listeners` meets its contract. Assumes nothing.
-use mathlib.Core.Path.{◌≡◌, refl, sym, ap, ◌∙◌}
-use Prim.Native.Nat.{ℕ, ◌+◌, ◌-◌, ◌*◌, ◌/◌, ◌%◌, ◌≤◌, ◌<◌}
+use mathlib.Core.Path.{◌≡◌, sym, ap, ◌∙◌}
+use Prim.Native.Nat.{◌+◌, ◌-◌, ◌<◌}
 use native.Mathlib.Omega.{arith}
-use mathlib.Core.List.{List, []}
-use mathlib.Core.Bool.{Bool}
-use lib.ListN.{length, get_or, take, drop}
+use mathlib.Core.List.{[]}
+use lib.ListN.{length, take, drop}
 use lib.Seq.{take_all, take_at, length-take-le}
 use Rattle.model.specs.FrameLayout.{longest_pdu}
 use Rattle.model.specs.Registrations.{listeners}
@@ -13,7 +12,7 @@ use Rattle.model.specs.Writing.{leaves_all}
 use Rattle.model.specs.Table.{decode}
 use Rattle.model.proofs.WritingPasses.{fitting-over}
 use Rattle.model.proofs.PlaceLists.{no_length}
-use Rattle.declarations.specs.Passes.{type, said_from, earlier, later, fitting, MessageWritten}
+use Rattle.declarations.specs.Passes.{type, said_from, earlier, later, fitting}
 use Rattle.declarations.specs.Packed.{listeners_at}
 use Rattle.declarations.proofs.Fitting.{used-is, from-type}
 use Rattle.declarations.proofs.Written.{none-fits}

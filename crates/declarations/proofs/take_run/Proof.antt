@@ -1,14 +1,11 @@
 -- `declarations::take_run` meets its contract. Assumes nothing.
-use mathlib.Core.Path.{◌≡◌, refl, sym, ap, ◌∙◌}
-use Prim.Native.Nat.{ℕ, ◌+◌, ◌-◌, ◌*◌, ◌/◌, ◌%◌, ◌≤◌, ◌<◌}
+use mathlib.Core.Path.{◌≡◌, sym, ap, ◌∙◌}
+use Prim.Native.Nat.{ℕ, ◌+◌, ◌*◌, ◌≤◌, ◌<◌}
 use native.Mathlib.Omega.{arith}
-use mathlib.Core.List.{List, []}
-use mathlib.Core.Bool.{Bool}
-use lib.ListN.{length, get_or, take, drop}
+use lib.ListN.{length}
 use Rattle.octets.proofs.Parts.{lent-part, length_part}
 use Rattle.model.specs.FrameLayout.{longest_pdu}
 use Rattle.model.specs.Writing.{leaves_all}
-use Rattle.model.specs.Declarations.{vector_size}
 use Rattle.model.specs.Table.{decode}
 use Rattle.declarations.specs.Passes.{type, said_from, later, fits}
 use Rattle.declarations.proofs.Fitting.{fits-within, fits-room, from-type, single-number, single-length}

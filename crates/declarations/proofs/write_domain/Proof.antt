@@ -1,9 +1,7 @@
 -- `declarations::write_domain` meets its contract. Assumes nothing.
-use mathlib.Core.Path.{◌≡◌, refl, sym, ap, ◌∙◌}
-use Prim.Native.Nat.{ℕ, ◌+◌, ◌-◌, ◌*◌, ◌≤◌, ◌<◌}
+use mathlib.Core.Path.{◌∙◌}
+use Prim.Native.Nat.{◌+◌, ◌*◌, ◌<◌}
 use native.Mathlib.Omega.{arith}
-use mathlib.Core.List.{List, []}
-use lib.ListN.{length, get_or, take, drop}
 use Prim.Native.Nat.{◌/◌, ◌%◌}
 use Rattle.declarations.specs.Vectors.{domain_vector, first_event}
 use Rattle.declarations.proofs.Written.{holding-none, holding-put, holding-all, be-one}

@@ -1,10 +1,8 @@
 -- `declarations::write_listeners` meets its contract. Assumes nothing.
-use mathlib.Core.Path.{◌≡◌, refl, sym, ap, ◌∙◌}
-use Prim.Native.Nat.{ℕ, ◌+◌, ◌-◌, ◌*◌, ◌/◌, ◌%◌, ◌≤◌, ◌<◌}
+use mathlib.Core.Path.{◌≡◌, refl, ap, ◌∙◌}
+use Prim.Native.Nat.{ℕ, ◌+◌, ◌-◌, ◌≤◌}
 use native.Mathlib.Omega.{arith}
-use mathlib.Core.List.{List, []}
-use mathlib.Core.Bool.{Bool}
-use lib.ListN.{length, get_or, take, drop}
+use lib.ListN.{length}
 use Rattle.octets.proofs.Parts.{lent-part, length_part}
 use Rattle.octets.specs.Fields.{flat}
 use Rattle.model.specs.FrameLayout.{longest_pdu}

@@ -1,19 +1,14 @@
 -- `declarations::write_none` meets its contract. Assumes nothing.
-use mathlib.Core.Path.{◌≡◌, refl, sym, ap, ◌∙◌}
-use Prim.Native.Nat.{ℕ, ◌+◌, ◌-◌, ◌*◌, ◌/◌, ◌%◌, ◌≤◌, ◌<◌}
+use mathlib.Core.Path.{◌≡◌, sym, ap, ◌∙◌}
+use Prim.Native.Nat.{ℕ, ◌+◌, ◌≤◌}
 use native.Mathlib.Omega.{arith}
-use mathlib.Core.List.{List, []}
-use lib.ListN.{length, get_or, take, drop}
-use mathlib.Core.Bool.{Bool, true, false}
-use Rattle.octets.specs.Parts.{part, patch, zeros}
+use lib.ListN.{length}
+use mathlib.Core.Bool.{Bool}
 use Rattle.octets.proofs.Parts.{lent-part, length_part}
-use Rattle.octets.proofs.Patches.{lent-patch}
-use Rattle.model.specs.Frames.{first_length}
 use Rattle.model.specs.Declarations.{empty_size}
 use Rattle.model.specs.Writing.{leaves_all}
 use Rattle.model.specs.Table.{decode}
-use Rattle.model.proofs.Parts.{length-zeros}
-use Rattle.declarations.specs.Passes.{type, earlier, later, message}
+use Rattle.declarations.specs.Passes.{type}
 use Rattle.declarations.proofs.Written.{empty-least, empty-written, nothing_written}
 use borrow.Author.Rules.{rules}
 use Rattle.declarations.proofs.write_none.Statement.{statement}

@@ -1,10 +1,8 @@
 -- `declarations::write_pdu` meets its contract. Assumes nothing.
-use mathlib.Core.Path.{◌≡◌, refl, sym, ap, ◌∙◌}
-use Prim.Native.Nat.{ℕ, ◌+◌, ◌-◌, ◌*◌, ◌/◌, ◌%◌, ◌≤◌, ◌<◌}
+use mathlib.Core.Path.{refl}
+use Prim.Native.Nat.{◌≤◌}
 use native.Mathlib.Omega.{arith}
-use mathlib.Core.List.{List, []}
-use mathlib.Core.Bool.{Bool}
-use lib.ListN.{length, get_or, take, drop}
+use lib.ListN.{length}
 use lib.ListN.{length-set}
 use Rattle.model.specs.Registrations.{advertises, faileds, listeners}
 use Rattle.model.specs.Frames.{registers, domain_type}
@@ -12,7 +10,6 @@ use Rattle.model.specs.Writing.{leaves_all}
 use Rattle.model.specs.Table.{decode}
 use Rattle.declarations.specs.Passes.{type, earlier, later, begun}
 use Rattle.declarations.proofs.Written.{first-room, next-pass, pdu-answer}
-use borrow.Author.Rules.{rules}
 use Rattle.declarations.proofs.write_pdu.Statement.{statement}
 use Rattle.declarations.proofs.write_pdu.Tie as tie
 

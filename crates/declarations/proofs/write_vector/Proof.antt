@@ -1,13 +1,10 @@
 -- `declarations::write_vector` meets its contract. Assumes nothing.
-use mathlib.Core.Path.{◌≡◌, refl, sym, ap, ◌∙◌}
-use Prim.Native.Nat.{ℕ, ◌+◌, ◌-◌, ◌*◌, ◌/◌, ◌%◌, ◌≤◌, ◌<◌}
+use mathlib.Core.Path.{◌≡◌, ◌∙◌}
+use Prim.Native.Nat.{◌-◌}
 use native.Mathlib.Omega.{arith}
-use mathlib.Core.List.{List, []}
-use lib.ListN.{length, get_or, take, drop}
-use Rattle.model.specs.Registrations.{advertises, faileds, listeners}
-use Rattle.model.specs.Frames.{registers, domain_type}
+use lib.ListN.{length}
 use Rattle.model.specs.Declarations.{vector_size}
-use Rattle.declarations.specs.Passes.{type, said_by, Saying}
+use Rattle.declarations.specs.Passes.{type}
 use Rattle.declarations.proofs.Places.{stream, slot}
 use Rattle.declarations.proofs.Vectors.{advertise-said, failed-said, domain-said}
 use borrow.Author.Rules.{rules}

@@ -1,14 +1,12 @@
 -- `declarations::write_vectors` meets its contract. Assumes nothing.
 use mathlib.Core.Path.{◌≡◌, refl, sym, ap, ◌∙◌}
-use Prim.Native.Nat.{ℕ, ◌+◌, ◌-◌, ◌*◌, ◌≤◌, ◌<◌}
+use Prim.Native.Nat.{ℕ, ◌+◌, ◌-◌, ◌*◌, ◌≤◌}
 use native.Mathlib.Omega.{arith}
-use mathlib.Core.List.{List, []}
-use lib.ListN.{length, get_or, take, drop}
-use borrow.Author.Tests.{not-true, not-false}
+use mathlib.Core.List.{List}
+use lib.ListN.{length, take}
 use Rattle.octets.proofs.Parts.{lent-part, length_part}
 use Rattle.model.specs.Frames.{Attribute, registers, domain_type}
 use Rattle.model.specs.Table.{decode}
-use Rattle.model.specs.Laid.{Laid}
 use Rattle.table.specs.Places.{PortIn}
 use Rattle.table.proofs.Header.{laid-few}
 use Rattle.table.proofs.SenderParts.{sender-fits}

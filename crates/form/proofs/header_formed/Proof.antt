@@ -5,7 +5,6 @@ use Prim.Native.Nat.{◌/◌, ◌≤◌}
 use native.Mathlib.Omega.{arith}
 use lib.ListN.{take}
 use borrow.Author.Rules.{rules}
-use borrow.Author.Tests.{not-true, not-false}
 use Rattle.model.specs.Layout.{ports_unit, settings_size}
 use Rattle.model.specs.Lists.{all_true}
 use Rattle.model.specs.Table.{settings_rules}

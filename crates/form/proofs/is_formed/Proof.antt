@@ -1,7 +1,7 @@
 -- `form::is_formed` meets its contract. Assumes nothing.
 use mathlib.Core.Path.{sym, ◌∙◌}
 use borrow.Author.Rules.{rules}
-use borrow.Author.Tests.{eq-eqb, ne_eqb, not-true, not-false}
+use borrow.Author.Tests.{eq-eqb, ne_eqb}
 use Rattle.model.specs.Table.{table_rules, formed}
 use Rattle.form.specs.Asks.{TableGiven}
 use Rattle.form.proofs.Tests.{all-true-split}

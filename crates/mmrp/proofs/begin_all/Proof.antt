@@ -1,5 +1,4 @@
 -- `mmrp::begin_all` meets its contract. Assumes nothing.
-use borrow.Author.Tests.{not-true, not-false}
 use borrow.Author.Rules.{rules}
 use Rattle.model.specs.Registrations.{leave_all_addresses}
 use Rattle.model.specs.AddressFrames.{all_addresses}

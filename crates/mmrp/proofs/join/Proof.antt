@@ -1,5 +1,4 @@
 -- `mmrp::join` meets its contract. Assumes nothing.
-use borrow.Author.Tests.{not-true, not-false}
 use borrow.Author.Rules.{rules}
 use Rattle.mmrp.proofs.Walks.{laid-size, join-stopped, join-room, join-held, join-done}
 use Rattle.mmrp.proofs.join.Statement.{statement}

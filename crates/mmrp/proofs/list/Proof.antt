@@ -3,7 +3,6 @@ use Prim.Native.Nat.{◌-◌}
 use mathlib.Core.Path.{◌≡◌, refl, sym, ◌∙◌}
 use native.Mathlib.Omega.{arith}
 use lib.ListN.{length}
-use borrow.Author.Tests.{not-true, not-false}
 use borrow.Author.Rules.{rules}
 use Rattle.msrpdu.specs.declared.VectorRead.TheVariants.{Vector, PassedOver}
 use Rattle.mmrpdu.specs.Reader.{list_named, typed_read}

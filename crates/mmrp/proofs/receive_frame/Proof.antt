@@ -1,6 +1,5 @@
 -- `mmrp::receive_frame` meets its contract. Assumes nothing.
 use mathlib.Core.Bool.{false}
-use borrow.Author.Tests.{not-true, not-false}
 use borrow.Author.Rules.{rules}
 use Rattle.model.specs.AddressFrames.{address_walk}
 use Rattle.mmrp.specs.Walked.{acts_of}

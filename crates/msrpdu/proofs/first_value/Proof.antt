@@ -1,6 +1,5 @@
 -- `msrpdu::first_value` meets its contract. Assumes nothing.
 use mathlib.Core.Path.{sym}
-use native.Mathlib.Omega.{arith}
 use borrow.Author.Rules.{rules}
 use Rattle.msrpdu.proofs.Laws.{first-none, first-outside, first-turned, first-lent}
 use Rattle.msrpdu.proofs.first_value.Statement.{statement}

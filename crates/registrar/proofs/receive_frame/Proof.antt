@@ -1,5 +1,4 @@
 -- `registrar::receive_frame` meets its contract. Assumes nothing.
-use borrow.Author.Tests.{not-true, not-false}
 use borrow.Author.Rules.{rules}
 use Rattle.registrar.proofs.Walks.{walked-laid}
 use Rattle.registrar.proofs.Receiving.{received-not, received-all}

@@ -5,7 +5,6 @@ use mathlib.Core.List.{◌++◌}
 use mathlib.Core.Bool.{false}
 use native.Mathlib.Omega.{arith}
 use native.Mathlib.Nat.{sub-zero}
-use borrow.Author.Tests.{not-true, not-false}
 use borrow.Author.Rules.{rules}
 use Rattle.model.specs.Frames.{Vector, value_acts, values_acts}
 use Rattle.registrar.specs.Acts.{vector_of}
