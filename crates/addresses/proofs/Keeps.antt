@@ -25,7 +25,7 @@ change-fits o f u g = record { slotted = f.slotted; domains = f.domains; address
 -- the same addresses, with another presence
 pub same-fits : (l r : List Address) → FitAddresses l → macs r ≡ macs l → All FitAddress r → FitAddresses r
 same-fits l r f e a = record {
-  at-most-64 = omega (arith, f.at-most-64, held-macs r, held-macs l, ap length e);
+  at_most_64 = omega (arith, f.at_most_64, held-macs r, held-macs l, ap length e);
   each = a;
   ascending = subst Ascending (sym e) f.ascending;
 }
@@ -58,7 +58,7 @@ ascends-out (suc k) (a ∷ l) h = (all-out (λ j. a.mac < j) k l h.0, ascends-ou
 
 pub out-fits : (k : ℕ) (l : List Address) → FitAddresses l → length (taken_out k l) ≤ length l → FitAddresses (taken_out k l)
 out-fits k l f h = record {
-  at-most-64 = omega (arith, f.at-most-64);
+  at_most_64 = omega (arith, f.at_most_64);
   each = unfold taken_out in (all_append FitAddress (take k l) (drop (suc k) l) (all_take FitAddress k l f.each) (all_drop FitAddress (suc k) l f.each));
   ascending = ascends-out k l f.ascending;
 }
@@ -116,7 +116,7 @@ joined-macs m (a ∷ l) = go (tri m a.mac) (joined-macs m l)
 
 module _ (m : ℕ) (small : m < 2 ^ 48) (l : List Address) (f : FitAddresses l) (few : length (with_room m l) ≤ most_addresses) where
   pub room_fits : FitAddresses (with_room m l)
-  room_fits = record { at-most-64 = few; each = fit-room m small l f.each; ascending = ascends-room m l f.ascending }
+  room_fits = record { at_most_64 = few; each = fit-room m small l f.each; ascending = ascends-room m l f.ascending }
 
   pub join-fits : FitAddresses (with_joined m l)
   join-fits = same-fits (with_room m l) (with_joined m l) room_fits (joined-macs m l) (fit-joined m small l f.each)

@@ -157,7 +157,7 @@ module _ (s₀ : List ℕ) where
     within = omega arith;
     laid = l;
     size = z;
-    few = (laid-own-fits s₀ l).addresses.at-most-64;
+    few = (laid-own-fits s₀ l).addresses.at_most_64;
     leads = unfold change_addresses in rw (dropping-all (to_own s₀).addresses k e);
   }
 

@@ -154,7 +154,7 @@ module _ (s : List ℕ) (d : LaidOwn s) (m k : ℕ) where
   pub enrolled-there : found_at m 0 (macs those) ≡ At k → (true ≡ leb (length (with_room m those)) most_addresses) × (s ≡ own_octets (change_addresses (with_room m) (to_own s)))
   enrolled-there e =
       let r = (held_at m k those e).room in (
-        sym (le-leb (length (with_room m those)) most_addresses (rw r (laid-own-fits s d).addresses.at-most-64)),
+        sym (le-leb (length (with_room m those)) most_addresses (rw r (laid-own-fits s d).addresses.at_most_64)),
         laid-own-is s d ∙ own_same (to_own s) ∙ changed-same (to_own s) (λ l. l) (with_room m) (sym r),
       )
 

@@ -38,7 +38,7 @@ module _ (s : List ℕ) where
   held-octet = sym (length-parts address_size to_address (get_or s in_own.count 0) _)
 
   pub held-few : LaidOwn s → get_or s in_own.count 0 ≤ most_addresses
-  held-few l = omega (arith, held-octet, (laid-own-fits s l).addresses.at-most-64)
+  held-few l = omega (arith, held-octet, (laid-own-fits s l).addresses.at_most_64)
 
 -- what stands before the records, of so many, and behind them
 pub front : Own → ℕ → List ℕ

@@ -40,7 +40,7 @@ module _ {t : List ℕ} {p : ℕ} (s : PortIn t p) (c : Class) where
       laid = s.laid;
       few = few;
       placed =
-          rw in_order (all-sorted (λ m. m % 64 < length b.streams) (orders_on p c b) (orders-placed b.settings p c b.streams w.at-most-64));
+          rw in_order (all-sorted (λ m. m % 64 < length b.streams) (orders_on p c b) (orders-placed b.settings p c b.streams w.at_most_64));
     }
 
     module _ (limit used : ℕ) (g : limit ≡ limit_shown b.settings b p c) (after : List ℕ)
@@ -56,7 +56,7 @@ module _ {t : List ℕ} {p : ℕ} (s : PortIn t p) (c : Class) where
 
       taken : (used ≡ total l cs) × (after ≡ encode admitted)
       taken =
-          let both = by-importance b.settings p c l b.streams w.at-most-64 w.ascending (ids-small b.streams w.streams) in (
+          let both = by-importance b.settings p c l b.streams w.at_most_64 w.ascending (ids-small b.streams w.streams) in (
             (rw (g, in_order) at h) ∙ both.0,
             (rw (g, in_order) at i) ∙ ap (λ (m : List Stream). encode (holding b m)) both.1,
           )

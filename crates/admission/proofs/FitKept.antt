@@ -102,6 +102,6 @@ module _ (b : Bridge) (w : FitBridge b) (p : ℕ) (h : p < 8) (c : Class) where
   admission-fits =
       let t = with_total c (total l cs) (totals_at p b) in
       totalled-fits (holding b (map (admit b.settings p c l cs) b.streams)) admitted-fits (set b.totals p t)
-      (length-set b.totals p t ∙ w.eight-totals)
+      (length-set b.totals p t ∙ w.eight_totals)
       (all_set FitTotals b.totals p t w.totals
       (limit-fits b w p c (total l cs) (unfold total in within l (sort cs)) (totals_at p b) (all_get_or FitTotals b.totals w.totals no_totals no-totals-fit p)))

@@ -41,7 +41,7 @@ report-settled t time n u o small call z p place r shown accepted =
     let b = decode u in
     let v : Valid b = valid-decode u kept.0 kept.1 in
     let h = (report-0 u p place).0 (rw shown at accepted) in
-    let here : p - 1 < 8 = omega (arith, right-port b.settings p h.0.1, v.settings.eight-ports) in
+    let here : p - 1 < 8 = omega (arith, right-port b.settings p h.0.1, v.settings.eight_ports) in
     let d : Settled b = (advance-decides t time n u o small call z).rules.settled in
     let s : Shows u p place r = report-shows u p place r shown accepted in
     record {

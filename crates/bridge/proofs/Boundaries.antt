@@ -28,7 +28,7 @@ module _ (u : List ℕ) (p : ℕ) where
 
 module _ (t : List ℕ) (time n : ℕ) (u : List ℕ) (octets : Octets t) (small : time < 2 ^ 32) (call : Advances t time n u) (accepted : n ≡ 0) (p : ℕ) (port : p < length (decode u).settings.ports) where
   here : p < 8
-  here = omega (arith, port, (left-valid t time n u octets small call accepted).settings.eight-ports)
+  here = omega (arith, port, (left-valid t time n u octets small call accepted).settings.eight_ports)
 
   module _ (c : Class) (some : is_no_class c ≡ false) where
     -- The flag of a class is set exactly where one of h)'s conditions holds.

@@ -147,7 +147,7 @@ write-answers t p place buffer n long next u v o call = record {
   short = rw call.number_is (Refusals.write-10 t p place buffer);
   above = rw call.number_is (Refusals.write-13 t p place buffer);
   accepted = rw call.number_is (Refusals.write-0 t p place buffer);
-  unaltered = rw (call.number_is, call.length-is, call.next-is, call.buffer-is, call.table_is) (Refusals.write-refused t p place buffer);
+  unaltered = rw (call.number_is, call.length_is, call.next_is, call.buffer_is, call.table_is) (Refusals.write-refused t p place buffer);
   form = rw (call.number_is, call.table_is) (λ e. write-formed t (o, ((Refusals.write-0 t p place buffer).0 e).0.0) p place buffer);
 }
 

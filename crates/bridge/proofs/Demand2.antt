@@ -124,7 +124,7 @@ mmrp-registers t p pdu n u o call z =
     let all = ap (λ (a : Answer). a.bridge) (registered-all b p pdu es h.0.1 h.1.1 room) in
     let kept : Valid (addressed b p es) = rw all at (mmrp-keeps b p pdu v) in
     let table : u ≡ encode (addressed b p es) = call.1 ∙ ap (λ (c : Call). c.table) taken in
-    let place : p - 1 < length b.owns = omega (arith, right-port b.settings p h.0.1, v.eight-owns, v.settings.eight-ports) in
+    let place : p - 1 < length b.owns = omega (arith, right-port b.settings p h.0.1, v.eight_owns, v.settings.eight_ports) in
     record {
       acts = es;
       read = h.1.1;
@@ -190,7 +190,7 @@ pub record Tells (t : List ℕ) (p place : ℕ) (buffer : List ℕ) (long next :
   pub table : v ≡ encode (after_write (decode t) (p - 1) place)
   -- the port's list then, and the place in it from which the pass goes on
   pub list : declared (decode v) p ≡ (wrote_on (decode t) (p - 1) place).list
-  pub next-is : next ≡ (wrote_on (decode t) (p - 1) place).next
+  pub next_is : next ≡ (wrote_on (decode t) (p - 1) place).next
   pub next-within : next ≤ length (declared (decode v) p)
 
 written : (t : List ℕ) (p place : ℕ) (buffer : List ℕ) → OnPort t p → longest_pdu ≤ length buffer → (write (decode t) p place).number ≡ 0 →
@@ -219,7 +219,7 @@ pub record Wrote (t : List ℕ) (p place : ℕ) (buffer : List ℕ) (long next :
   pub room : longest_pdu ≤ length buffer
   pub within : place ≤ length (declared (decode t) p)
   pub long-is : long ≡ length (pdu_octets (write (decode t) p place).all (write (decode t) p place).run)
-  pub next-is : next ≡ (write (decode t) p place).next
+  pub next_is : next ≡ (write (decode t) p place).next
   pub pdu : take long u ≡ pdu_octets (write (decode t) p place).all (write (decode t) p place).run
   pub behind : drop long u ≡ drop long buffer
   pub same_length : length u ≡ length buffer
@@ -235,8 +235,8 @@ wrote t p place buffer n long next u v o call z =
     let w = write b p place in
     let s : List ℕ = pdu_octets w.all w.run in
     let c = written t p place buffer h.0 h.1.0 (ap (λ (x : Written). x.number) (write-from b p place within)) in
-    let long-is : long ≡ length s = call.length-is ∙ ap (λ (a : WriteCall). a.length) c in
-    let left : u ≡ s ++ drop (length s) buffer = call.buffer-is ∙ ap (λ (a : WriteCall). a.buffer) c in
+    let long-is : long ≡ length s = call.length_is ∙ ap (λ (a : WriteCall). a.length) c in
+    let left : u ≡ s ++ drop (length s) buffer = call.buffer_is ∙ ap (λ (a : WriteCall). a.buffer) c in
     let valid : Valid b = valid-decode t o h.0.0 in
     let table : v ≡ encode w.bridge = call.table_is ∙ ap (λ (a : WriteCall). a.table) c in
     record {
@@ -246,7 +246,7 @@ wrote t p place buffer n long next u v o call z =
       room = h.1.0;
       within = within;
       long-is = long-is;
-      next-is = call.next-is ∙ ap (λ (a : WriteCall). a.next) c;
+      next_is = call.next_is ∙ ap (λ (a : WriteCall). a.next) c;
       pdu = rw (long-is, left) (take-append_seam s (drop (length s) buffer));
       behind = rw (long-is, left) (drop-append_seam s (drop (length s) buffer));
       same_length = rw left (length_front buffer s (length s) (sym (length-take-le (length s) buffer (omega (arith, run_fits b p place, h.1.0)))));
@@ -268,7 +268,7 @@ write-tells t p place buffer n long next u v o call z =
     let taken : w.run ≡ take m rest = ap (λ (x : Written). x.run) from in
     let count : length w.run ≡ m = ap length taken ∙ length-take-le m rest (takes-within (leaves_all b (p - 1)) rest) in
     let after : w.bridge ≡ after_write b (p - 1) place = ap (λ (x : Written). x.bridge) from in
-    let next_place : next ≡ (wrote_on b (p - 1) place).next = h.next-is ∙ ap (λ (x : Written). x.next) from in
+    let next_place : next ≡ (wrote_on b (p - 1) place).next = h.next_is ∙ ap (λ (x : Written). x.next) from in
     let list : declared (decode v) p ≡ (wrote_on b (p - 1) place).list =
     ap (λ (d : Bridge). declared d p) h.bridge ∙ then-declared b p place h.valid h.port h.within in
     record {
@@ -291,7 +291,7 @@ write-tells t p place buffer n long next u v o call z =
       bridge = h.bridge ∙ after;
       table = h.table ∙ ap encode after;
       list = list;
-      next-is = next_place;
+      next_is = next_place;
       next-within = rw (next_place, list) (next-within b p place);
     }
 

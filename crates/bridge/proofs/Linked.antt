@@ -95,7 +95,7 @@ pass-runs p _ _ _ _ octets quiet (more t place buffer n long next u v pdus w cal
     go zero a s ih = absurd (omega arith)
     go (suc k) a s ih =
         let later : pdus ≡ map (pdu_octets false) (pass_runs k (write (decode t) p place).bridge p (write (decode t) p place).next) =
-        ih k (omega arith) ∙ ap₂ (λ (c : Bridge) (i : ℕ). map (pdu_octets false) (pass_runs k c p i)) did.bridge did.next-is in
+        ih k (omega arith) ∙ ap₂ (λ (c : Bridge) (i : ℕ). map (pdu_octets false) (pass_runs k c p i)) did.bridge did.next_is in
         rw s (ap₂ (λ (x : List ℕ) (l : List (List ℕ)). x ∷ l) (pdu-then t p place buffer n long next u v octets quiet call z) later)
 
 -- as many as have something to say

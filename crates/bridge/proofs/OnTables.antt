@@ -69,7 +69,7 @@ module _ (t : List ℕ) (p : ℕ) where
 
   pub port-in : Passed t p → PortIn t (p - 1)
   port-in v =
-      record { laid = formed-laid t v.octets v.formed; port = omega (arith, right-port (decode t).settings p v.port, (valid-decode t v.octets v.formed).settings.eight-ports) }
+      record { laid = formed-laid t v.octets v.formed; port = omega (arith, right-port (decode t).settings p v.port, (valid-decode t v.octets v.formed).settings.eight_ports) }
 
   -- by every call that refuses a wrong port with 1
   pub port-refused : (f : Bridge → Answer) → (wrong_port (decode t).settings p ≡ true → f (decode t) ≡ record { number = 1; bridge = decode t })

@@ -77,7 +77,7 @@ module _ (t : List ℕ) (p place : ℕ) (buffer : List ℕ) (n long next : ℕ) 
 
   then : Calm (decode v) p next
   then =
-      rw (did_write.bridge, did_write.next-is)
+      rw (did_write.bridge, did_write.next_is)
       (then-calm (decode t) p place did_write.valid did_write.port did_write.within)
 
   pub none_then : leaves_all (decode v) (p - 1) ≡ false
@@ -87,7 +87,7 @@ module _ (t : List ℕ) (p place : ℕ) (buffer : List ℕ) (n long next : ℕ) 
   no-leave-all = ap (λ (w : model.Written). w.all) (write-from (decode t) p place did_write.within) ∙ none
 
   pub run-then : did.run ++ to_say (decode v) p next ≡ to_say (decode t) p place
-  run-then = rw (did_write.bridge, did_write.next-is) (run-and-rest (decode t) p place calm)
+  run-then = rw (did_write.bridge, did_write.next_is) (run-and-rest (decode t) p place calm)
 
   -- it says something exactly where its PDU is longer than 3 octets
   silent : says_nothing did ≡ false → 3 < long
@@ -199,5 +199,5 @@ pass-leaves p _ _ _ _ octets none (more t place buffer n long next u v pdus w ca
     go zero a ih = absurd (omega arith)
     go (suc k) a ih =
         ih k (omega arith)
-        ∙ ap₂ (λ (c : Bridge) (i : ℕ). left_all k c p i) did.bridge did.next-is
+        ∙ ap₂ (λ (c : Bridge) (i : ℕ). left_all k c p i) did.bridge did.next_is
         ∙ rw (says_some t p place buffer n long next u v octets none call z e)

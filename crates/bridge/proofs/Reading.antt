@@ -30,9 +30,9 @@ module _ (t : List ℕ) (p place : ℕ) (buffer : List ℕ) (n number long next 
   unfolding refused_write
   refused e = record {
     number_is = rw e r.number_is;
-    length-is = rw e r.length-is;
-    next-is = rw e r.next-is;
-    buffer-is = rw e;
+    length_is = rw e r.length_is;
+    next_is = rw e r.next_is;
+    buffer_is = rw e;
     table_is = rw e;
   }
 
@@ -71,9 +71,9 @@ module _ (t : List ℕ) (p place : ℕ) (buffer : List ℕ) where
           let place-then : next ≡ (wrote_on b (p - 1) place).next = m.next ∙ left-written b (p - 1) place span reached listed a in
           record {
             number_is = rw (h, w, le-ltb (length buffer) longest_pdu l, le-ltb _ _ a);
-            length-is = rw (h, w, le-ltb (length buffer) longest_pdu l, le-ltb _ _ a) d.size;
-            next-is = rw (h, w, le-ltb (length buffer) longest_pdu l, le-ltb _ _ a) place-then;
-            buffer-is = rw (h, w, le-ltb (length buffer) longest_pdu l, le-ltb _ _ a) d.buffer;
+            length_is = rw (h, w, le-ltb (length buffer) longest_pdu l, le-ltb _ _ a) d.size;
+            next_is = rw (h, w, le-ltb (length buffer) longest_pdu l, le-ltb _ _ a) place-then;
+            buffer_is = rw (h, w, le-ltb (length buffer) longest_pdu l, le-ltb _ _ a) d.buffer;
             table_is = rw (h, w, le-ltb (length buffer) longest_pdu l, le-ltb _ _ a) table;
           }
 

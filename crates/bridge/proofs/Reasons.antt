@@ -160,7 +160,7 @@ module _ (t : List ℕ) (octets : Octets t) (form : formed t ≡ true) where
     unfolding reason explained scene_now
     lists buffer room e =
         let size : length (listed_octets those) ≡ length those * 16 = length-listed those in
-        let few : length those ≤ 63 = omega (arith, listed-few (scene_now (decode t)) (decode t).clock (decode t).streams p (stream_now t p k) (mem k held), valid.at-most-64) in
+        let few : length those ≤ 63 = omega (arith, listed-few (scene_now (decode t)) (decode t).clock (decode t).streams p (stream_now t p k) (mem k held), valid.at_most_64) in
         let short = shortfall-is (scene_now (decode t)) (decode t).clock (decode t).streams p (stream_now t p k) e in
         let told = told-h (scene_now (decode t)) (decode t).clock (decode t).streams p (stream_now t p k) e in
         rw told
@@ -190,7 +190,7 @@ why-reasons t id p buffer r octets call z =
     let form = h.0.0 in
     let w : SoughtAt id (decode t).streams h.1.0 = seek-held id (decode t).streams h.1.0 h.1.1 in
     let k = w.place in
-    let here : p - 1 < 8 = omega (arith, right-port (decode t).settings p h.0.1, (valid t octets form).settings.eight-ports) in
+    let here : p - 1 < 8 = omega (arith, right-port (decode t).settings p h.0.1, (valid t octets form).settings.eight_ports) in
     let told : r ≡ explained buffer (reason (decode t) (p - 1) (stream_now t (p - 1) k)) = rw w.there (call ∙ why-tells t id p buffer h.0 h.1.0 h.1.1 h.1.2) in
     let same : r.step ≡ step t octets form (p - 1) k here w.within =
     ap (λ (a : WhyCall). a.step) told ∙ step-told (scene_now (decode t)) (decode t).clock (decode t).streams (p - 1) (stream_now t (p - 1) k) in

@@ -58,7 +58,7 @@ module _ (t : List ℕ) (p : ℕ) (pdu : List ℕ) (passed : Passed t p) (z : nu
   held-is = ap (λ (x : Own). x.addresses) lent_is
 
   there : p - 1 < length (decode t).owns
-  there = omega (arith, (port-in t p passed).port, valid.eight-owns)
+  there = omega (arith, (port-in t p passed).port, valid.eight_owns)
 
   own-valid : ValidOwn (decode t).clock (decode t).settings.leave_time (own_at (decode t).owns (p - 1))
   own-valid = all-at (ValidOwn (decode t).clock (decode t).settings.leave_time) (decode t).owns valid.owns (p - 1) no_own there

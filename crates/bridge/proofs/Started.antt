@@ -21,7 +21,7 @@ use Rattle.model.proofs.Owns.{own-zeros}
 use Rattle.model.proofs.SenderOctets.{sender-coded}
 use Rattle.model.proofs.Tables.{no-totals, valid-started}
 use Rattle.model.proofs.Fits.{valid-fits}
-use Rattle.model.proofs.SettingsOctets.{settings-forth, settings-ports, formed-length, formed-rules, eight-ports}
+use Rattle.model.proofs.SettingsOctets.{settings-forth, settings-ports, formed-length, formed-rules, eight_ports}
 use Rattle.table.proofs.Fitting.{sending-fits}
 use Rattle.table.proofs.ByPlace.{encoded-laid, encoded-read}
 use Rattle.bridge.specs.Joining.{joined_at}
@@ -58,7 +58,7 @@ module _ (s : List ℕ) (o : Octets s) (f : settings_formed s ≡ true) where
       let st = to_settings s in
       let a : ℕ = (8 - length st.ports) * port_size in
       let l = formed-length s f in
-      let b = eight-ports s (formed-rules s f) in
+      let b = eight_ports s (formed-rules s f) in
       let e : a + (clock_size + (totals_size + (owns_size + (senders_size + records_size)))) ≡ table_length - length s = omega (arith, l, b, settings-ports s) in
       ap₂ (λ (x y : List ℕ). x ++ y) (settings-forth s o f)
       (all-zeros a records_size (replicate 8 no_totals) (all_replicate (λ t. t ≡ no_totals) 8 no_totals refl) refl

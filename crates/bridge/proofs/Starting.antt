@@ -13,7 +13,7 @@ use Rattle.model.specs.State.{started}
 use Rattle.model.specs.Table.{encode, to_settings, settings_formed}
 use Rattle.model.specs.Calls.{start_on}
 use Rattle.model.proofs.Parts.{zeros-add, length-zeros}
-use Rattle.model.proofs.SettingsOctets.{formed-length, formed-rules, eight-ports}
+use Rattle.model.proofs.SettingsOctets.{formed-length, formed-rules, eight_ports}
 
 module _ (t s : List ℕ) where
   pub start-wrong-table : (length t ≡ table_length → ⊥) → start_on t s ≡ record { number = 12; table = t }
@@ -31,7 +31,7 @@ module _ (t s : List ℕ) where
 
 -- settings are shorter than a table
 pub settings-short : (s : List ℕ) → settings_formed s ≡ true → length s ≤ settings_size
-settings-short s f = omega (arith, formed-length s f, eight-ports s (formed-rules s f))
+settings-short s f = omega (arith, formed-length s f, eight_ports s (formed-rules s f))
 
 -- the settings put in front of a table of zeros of any length
 pub settings-put : (n : ℕ) (s t z : List ℕ) → length t ≡ n → length s ≤ n → z ≡ patch 0 n (zeros n) t →

@@ -269,9 +269,9 @@ written_on : (p : ℕ) (s : List ℕ) → Frames.wrong_port settled.settings p �
 unfolding Writing written_to
 written_on p s right w buffer n long next after left enough call =
     let e = write-call settled settled-valid p 0 right buffer enough in
-    let long-is = rw (e, w.0, w.1) at call.length-is in
-    let written = rw (e, w.0, w.1) at call.buffer-is in
-    (rw (e, w.0) at call.number_is, long-is, rw (e, w.0, w.2) at call.next-is, rw (long-is, written) (take-append_seam s (drop (length s) buffer)))
+    let long-is = rw (e, w.0, w.1) at call.length_is in
+    let written = rw (e, w.0, w.1) at call.buffer_is in
+    (rw (e, w.0) at call.number_is, long-is, rw (e, w.0, w.2) at call.next_is, rw (long-is, written) (take-append_seam s (drop (length s) buffer)))
 
 -- Any table of the right length; the calls of the worked example, one after another.
 module _ (t : List ℕ) (right : length t ≡ table_length)

@@ -30,16 +30,16 @@ Advances table time number after = (number ≡ (advance_on table time).number) �
 -- a table, a port, a place and a buffer: the number, the PDU's length, the next place, and the buffer and the table afterwards
 pub record Writes (table : List ℕ) (port place : ℕ) (buffer : List ℕ) (number long next : ℕ) (written left : List ℕ) : Type 0 where
   pub number_is : number ≡ (write_on table port place buffer).number
-  pub length-is : long ≡ (write_on table port place buffer).length
-  pub next-is : next ≡ (write_on table port place buffer).next
-  pub buffer-is : written ≡ (write_on table port place buffer).buffer
+  pub length_is : long ≡ (write_on table port place buffer).length
+  pub next_is : next ≡ (write_on table port place buffer).next
+  pub buffer_is : written ≡ (write_on table port place buffer).buffer
   pub table_is : left ≡ (write_on table port place buffer).table
 
 -- what a write that is refused with number n answers
 pub record RefusedWith (n number long next : ℕ) : Type 0 where
   pub number_is : number ≡ n
-  pub length-is : long ≡ 0
-  pub next-is : next ≡ 0
+  pub length_is : long ≡ 0
+  pub next_is : next ≡ 0
 
 -- a table, a port and a place: the report
 abbrev pub Reports : List ℕ → ℕ → ℕ → Report → Type 0

@@ -73,9 +73,9 @@ module _ (sc : Scene) (named : sc.settings.bridge_id < 2 ^ 64) (now : ℕ) (soon
     rank = (settled-values x w).rank;
     eight_cells = w.eight_cells;
     cells = w.cells;
-    eight-results = length-tabulate 8 0 (early_at sc now x);
+    eight_results = length-tabulate 8 0 (early_at sc now x);
     results = all-tabulate FitResult 8 0 (early_at sc now x) early-result-fits;
-    eight-sends = w.eight-sends;
+    eight_sends = w.eight_sends;
     sends = w.sends;
   }
 

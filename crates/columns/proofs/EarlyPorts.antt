@@ -51,8 +51,8 @@ module _ (sc : Scene) (now : ℕ) (x : Stream) where
     rank = w.rank;
     eight_cells = w.eight_cells;
     cells = w.cells;
-    eight-results = up-to-length (early_at sc now x) x.results n (omega (arith, w.eight-results)) ∙ w.eight-results;
+    eight_results = up-to-length (early_at sc now x) x.results n (omega (arith, w.eight_results)) ∙ w.eight_results;
     results = up-to-keep (early_at sc now x) x.results FitResult (early-result-fits sc named now soon x w) w.results n;
-    eight-sends = w.eight-sends;
+    eight_sends = w.eight_sends;
     sends = w.sends;
   }

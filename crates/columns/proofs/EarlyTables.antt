@@ -148,7 +148,7 @@ module _ {table : List ℕ} {k t : ℕ} (i : TalkerAt table k t) where
     pub settled-ports : (now : ℕ) (y : List ℕ) → y ≡ encode (changed_at k (early_to 8 now) (decode u)) → y ≡ encode (changed_at k (λ sc. early sc now) (decode table))
     settled-ports now =
         changed-again (stands i.stands) (settled_as f x₀) settled-fits refl refl u settled-there (early_to 8 now) (early (scene_of (decode table)) now x₀)
-        (all-decided (scene_of (decode table)) now x₀ (stream-fits (stands i.stands)).eight-results)
+        (all-decided (scene_of (decode table)) now x₀ (stream-fits (stands i.stands)).eight_results)
 
 -- The places, one after another.
 
@@ -174,7 +174,7 @@ module _ {table : List ℕ} {k t : ℕ} (i : TalkerAt table k t) (now : ℕ) (so
     ports-turn h =
         changed-again (stands i.stands) xₙ ports-fit-here (unfold early_to in refl) (unfold early_to in refl) s e (early_one n now)
         (early_to (n + 1) now (scene_of (decode table)) (x₀ i))
-        (next-decided (scene_of (decode table)) now (x₀ i) n (omega (arith, (stream-fits (stands i.stands)).eight-results)))
+        (next-decided (scene_of (decode table)) now (x₀ i) n (omega (arith, (stream-fits (stands i.stands)).eight_results)))
 
 -- Every stream, one after another.
 

@@ -102,7 +102,7 @@ module _ (sc : Scene) (here said : List ℕ) (p t : ℕ) where
 pub edge-is : (e : Edges) (o : Own) → EdgesOf e o → (c : Class) → edge_of e c ≡ boundary o c
 unfolding edge_of boundary
 edge-is e o w no_class = refl
-edge-is e o w class_a = w.in-a
+edge-is e o w class_a = w.in_a
 edge-is e o w class_b = w.in_b
 
 -- The last steps, from the failure on every port and what is read of the port and of the Talker's cell.
@@ -230,4 +230,4 @@ pub some-scene : (b : Bridge) (p : ℕ) (e : Edges) → p < length b.owns
     → SceneOn b p e record { settings = b.settings; owns = set b.owns p (flagged e (own_at b.owns p)); inbound = inbounds_of b.streams }
 some-scene b p e h =
     let there = get_or-set_same b.owns p (flagged e (own_at b.owns p)) no_own h in
-    record { settings = refl; inbound = refl; edges = rw there record { in-a = refl; in_b = refl }; addresses = rw there }
+    record { settings = refl; inbound = refl; edges = rw there record { in_a = refl; in_b = refl }; addresses = rw there }

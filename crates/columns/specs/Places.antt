@@ -19,8 +19,8 @@ use Rattle.columns.specs.Stages.{early_at}
 pub record Asked (table here talker : List ℕ) (p : ℕ) : Type 0 where
   pub laid : Laid table
   pub place : p < 8
-  pub here-size : length here ≡ cell_size
-  pub talker-size : length talker ≡ cell_size
+  pub here_size : length here ≡ cell_size
+  pub talker_size : length talker ≡ cell_size
 
 -- a Talker is pruned on the port at place p
 abbrev pub pruned_on : Bridge → ℕ → Source → Bool

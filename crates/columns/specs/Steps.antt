@@ -55,5 +55,5 @@ edge_of e class_a = e.a
 edge_of e class_b = e.b
 
 pub record EdgesOf (e : Edges) (o : Own) : Type 0 where
-  pub in-a : e.a ≡ o.boundary_a
+  pub in_a : e.a ≡ o.boundary_a
   pub in_b : e.b ≡ o.boundary_b

@@ -29,7 +29,7 @@ put-made line text y at from n a b e =
     let w = lent-patch from n y line ∙ ap (λ (t : List ℕ). patch from n t line) (rw z at e) in
     record {
       end_is = rw (← a, ← b);
-      line-is = w ∙ rw (← a, ← b);
+      line_is = w ∙ rw (← a, ← b);
       within = rw (w, length-patch from n (take n text) line l (omega arith)) (omega arith);
     }
 
@@ -38,7 +38,7 @@ pub put-none : (line : List ℕ) (at from : ℕ) → from ≡ min at (length lin
 unfolding start_of fitting put_in
 put-none line at from e =
     let z : min 0 (length line - min at (length line)) ≡ 0 = omega arith in
-    record { end_is = omega arith; line-is = rw z (sym (patch-none (min at (length line)) line)); within = omega arith }
+    record { end_is = omega arith; line_is = rw z (sym (patch-none (min at (length line)) line)); within = omega arith }
 
 take-both : (x y : List ℕ) (n k : ℕ) → n ≤ length x → (n < length x → k ≡ 0) → take (n + k) (x ++ y) ≡ take n x ++ take k y
 take-both [] y zero k h z = let e : 0 + k ≡ k = omega arith in rw e
@@ -74,14 +74,14 @@ put-append {b = b} {m = m} {x = x} {y = y} {at = at} {e = e} p q =
     let k : ℕ = min (length y) (l - (s + n)) in
     let room = ends-within at l (length x) in
     let long = length-take-le n x (fits-of (length x) (l - s)) in
-    let same : length m ≡ l = ap length p.line-is ∙ length-patch s n (take n x) b long room in
+    let same : length m ≡ l = ap length p.line_is ∙ length-patch s n (take n x) b long room in
     let here : min e (length m) ≡ s + n = rw (p.end_is, same) (starts-within (s + n) l room) in
     let both = fit-both (length x) (length y) l s in
     record {
       end_is = q.end_is ∙ rw (here, same, length-append x y, both) (add_assoc s n k);
-      line-is =
-          q.line-is
-          ∙ rw (here, same, length-append x y, both, p.line-is, take-both x y n k (fits-of (length x) (l - s)) (none-behind (length x) (length y) l s))
+      line_is =
+          q.line_is
+          ∙ rw (here, same, length-append x y, both, p.line_is, take-both x y n k (fits-of (length x) (l - s)) (none-behind (length x) (length y) l s))
           (patch-next s n k (take n x) (take k y) b long room);
       within = q.within;
     }
@@ -93,7 +93,7 @@ put_whole {line = line} {text = text} p h =
     let start : min 0 (length line) ≡ 0 = omega arith in
     let all : min (length text) (length line - 0) ≡ length text = omega arith in
     let end = rw (start, all) at p.end_is in
-    let after = rw (start, all, take_all (length text) text (omega arith)) at p.line-is in
+    let after = rw (start, all, take_all (length text) text (omega arith)) at p.line_is in
     rw (end, after) (take_at text (drop (length text) line) (0 + length text) (omega arith))
 
 -- the text of one thing more

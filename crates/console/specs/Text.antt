@@ -31,7 +31,7 @@ put_in line at text = patch (start_of line at) (fitting line at text) (take (fit
 -- what putting a text leaves
 pub record Put (before : List ℕ) (at : ℕ) (text : List ℕ) (end : ℕ) (after : List ℕ) : Type 0 where
   pub end_is : end ≡ start_of before at + fitting before at text
-  pub line-is : after ≡ put_in before at text
+  pub line_is : after ≡ put_in before at text
   pub within : end ≤ length after
 
 -- a number in at most so many decimal digits, with no zero before them

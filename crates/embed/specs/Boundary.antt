@@ -34,4 +34,4 @@ pub record Explained (table : List ℕ) (id port : ℕ) (buffer : List ℕ) (num
   pub explains : Explains table id port buffer answer
   pub number_is : number ≡ answer.number
   pub parts_are : parts ≡ why_parts answer
-  pub buffer-is : after ≡ answer.buffer
+  pub buffer_is : after ≡ answer.buffer

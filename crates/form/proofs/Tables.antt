@@ -19,7 +19,7 @@ use Rattle.model.specs.Sending.{sends_formed, to_sends}
 use Rattle.model.specs.Table.{ports_field, to_port, to_settings, settings_rules, every_part, to_cell, result_formed, to_result, cells_part, results_part, to_stream, declarers, stored_formed, every_port, all_sends_part, sends, sent_formed, stream_rules, stream_formed, to_totals, own_formed, owns_part}
 use Rattle.model.specs.Table.{settings_part, clock_field, count_field, totals_part, senders_part, records_part, any_holds, rising, id_of, totals_within, table_rules}
 use Rattle.model.proofs.Lists.{all_true_lem}
-use Rattle.model.proofs.SettingsOctets.{eight-ports}
+use Rattle.model.proofs.SettingsOctets.{eight_ports}
 use Rattle.form.specs.Asks.{CellsFound, senders_of}
 use Rattle.form.proofs.EveryPart.{lent-rest}
 
@@ -45,7 +45,7 @@ record-tests ports clock leave n s cs rs ss c r m settled formed none held other
 -- settings that keep their rules have at most eight ports
 pub few-ports : (s : List ℕ) (w : ℕ) → w ≡ be_at 3 s in_head.word → all_true (settings_rules s) ≡ true → w / ports_unit ≤ 8
 few-ports s w e r =
-    let h : be_at 3 s in_head.word / ports_unit ≤ 8 = unfold ports_field in eight-ports s r in
+    let h : be_at 3 s in_head.word / ports_unit ≤ 8 = unfold ports_field in eight_ports s r in
     rw e h
 
 module _ (t : List ℕ) where
@@ -61,7 +61,7 @@ module _ (t : List ℕ) where
 
   pub header-ports : all_true (take 2 (table_rules t)) ≡ true → ports_field (settings_part t) ≤ 8
   unfolding table_rules
-  header-ports r = eight-ports (settings_part t) (all_true_lem (take 2 (table_rules t)) r).0
+  header-ports r = eight_ports (settings_part t) (all_true_lem (take 2 (table_rules t)) r).0
 
   pub too-many-streams : 64 < get_or t in_table.count 0 → false ≡ all_true (table_rules t)
   unfolding table_rules count_field all_true

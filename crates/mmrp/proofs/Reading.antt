@@ -321,7 +321,7 @@ module _ (now : ℕ) (pdu s : List ℕ) (laid : LaidOwn s) where
           ∙ applied-after-room now es l (held_fits s laid).ascending
 
       few : length (does_addresses now es l) ≤ most_addresses
-      few = omega (arith, w.fits.at-most-64, same_length now es l)
+      few = omega (arith, w.fits.at_most_64, same_length now es l)
 
       go : (r : Bool) → Walked true now es t r u → Receives now pdu s r u
       go true y = record {

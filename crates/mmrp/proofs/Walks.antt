@@ -29,7 +29,7 @@ use Rattle.mmrp.proofs.Room.{effects-append, effects-grow, effects-drop, joined-
 -- The octets with other addresses.
 
 pub laid-size : (s : List ℕ) → LaidOwn s → length s ≡ own_size
-laid-size s l = ap length l.is ∙ own-length l.thing l.fits.slotted l.fits.addresses.at-most-64
+laid-size s l = ap length l.is ∙ own-length l.thing l.fits.slotted l.fits.addresses.at_most_64
 
 module _ (s : List ℕ) (laid : LaidOwn s) where
   pub held_fits : FitAddresses (held s)

@@ -71,7 +71,7 @@ msrp-addresses b p pdu q = go (reading b.settings p pdu)
 
 module _ (b : Bridge) (v : Valid b) (p : ℕ) (here : wrong_port b.settings p ≡ false) where
   place : p - 1 < length b.owns
-  place = omega (arith, right-port b.settings p here, v.eight-owns, v.settings.eight-ports)
+  place = omega (arith, right-port b.settings p here, v.eight_owns, v.settings.eight_ports)
 
   with-room : (es : List AddressAct) → length (together (held_on b p) (address_joins es)) ≤ most_addresses → has_room b.clock es (own_at b.owns (p - 1)) ≡ true
   unfolding has_room

@@ -143,7 +143,7 @@ addresses-octets l =
 module _ (clock leave : ℕ) (small : clock < 2 ^ 32) where
   pub valid-addresses-fit : (l : List Address) → ValidAddresses clock leave l → FitAddresses l
   valid-addresses-fit l v = record {
-    at-most-64 = v.at-most-64;
+    at_most_64 = v.at_most_64;
     each = all_map (ValidAddress clock leave) (λ a. Fit address_widths (address_numbers a)) (address-fit clock leave small) l v.each;
     ascending = rising-ascends (macs l) v.ascending;
   }
@@ -176,7 +176,7 @@ module _ (clock leave : ℕ) (small : clock < 2 ^ 32) where
 
     pub addresses-valid : rising (parts address_size mac_of n s) ≡ true → ValidAddresses clock leave those
     addresses-valid rise = record {
-      at-most-64 = omega (arith, length-parts address_size to_address n s);
+      at_most_64 = omega (arith, length-parts address_size to_address n s);
       each = every-read address_size (address_formed clock leave) to_address (ValidAddress clock leave) (address-valid clock leave) n s (omega arith) o r;
       ascending = rising-rises (macs those) (ap rising (sym (macs-read n s)) ∙ rise);
     }

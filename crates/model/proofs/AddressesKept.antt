@@ -122,7 +122,7 @@ module _ (clock leave : ℕ) (leaves : 1 ≤ leave) where
         slotted = v.slotted;
         domains = v.domains;
         addresses = record {
-          at-most-64 = leb-true (length (does_addresses clock es o.addresses)) most_addresses e;
+          at_most_64 = leb-true (length (does_addresses clock es o.addresses)) most_addresses e;
           each = acts-valid es h o.addresses v.addresses.each;
           ascending = rw (acts-macs clock es o.addresses) (rising-together (address_joins es) (macs o.addresses) v.addresses.ascending);
         };
@@ -140,17 +140,17 @@ effect-keeps b p (address_acts es) here fits v =
     record {
       settings = v.settings;
       clock = v.clock;
-      eight-totals = v.eight-totals;
+      eight_totals = v.eight_totals;
       totals = v.totals;
-      eight-owns = length_at (p - 1) u b.owns ∙ v.eight-owns;
+      eight_owns = length_at (p - 1) u b.owns ∙ v.eight_owns;
       owns =
           all_changed (ValidOwn b.clock b.settings.leave_time) (p - 1) u b.owns
           (own-valid b.clock b.settings.leave_time v.settings.leaves es fits) v.owns;
       no-other-owns = rw (drop-changed (length b.settings.ports) (p - 1) u b.owns here) v.no-other-owns;
-      eight-senders = v.eight-senders;
+      eight_senders = v.eight_senders;
       senders = v.senders;
       no-other-senders = v.no-other-senders;
-      at-most-64 = v.at-most-64;
+      at_most_64 = v.at_most_64;
       streams = v.streams;
       ascending = v.ascending;
     }

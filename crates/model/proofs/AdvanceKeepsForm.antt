@@ -158,7 +158,7 @@ module _ (st : Settings) (clock now : ℕ) (later : clock ≤ now) (o : List Own
             all-mapped (ValidDomain clock st.leave_time) (ValidDomain now st.leave_time) (expire_domain st now)
             (domain-remains st clock now later) (own_at o p).domains w.domains;
         addresses = record {
-          at-most-64 = le_trans (fewer-addresses st now (own_at o p).addresses) w.addresses.at-most-64;
+          at_most_64 = le_trans (fewer-addresses st now (own_at o p).addresses) w.addresses.at_most_64;
           each = addresses-remain st clock now later (own_at o p).addresses w.addresses.each;
           ascending = macs-rise st now (own_at o p).addresses w.addresses.ascending;
         };
@@ -804,13 +804,13 @@ module _ (sc : Scene) (named : sc.settings.bridge_id < 2 ^ 64) (few : length sc.
     cells = r.cells;
     no-other-cells = r.no-other-cells;
     is-held = is-held;
-    eight-results = length-tabulate 8 0 (decide_at sc now s x);
+    eight_results = length-tabulate 8 0 (decide_at sc now s x);
     results = results-valid;
     no-other-results = no-other-results;
     idle = idle-decided;
     stored = λ p h. rw (at_place (decide_at sc now s x) p unsettled (omega arith)) (unfold n in stored-decided p h);
     one-declares = one-decided;
-    eight-sends = length-tabulate 8 0 sent;
+    eight_sends = length-tabulate 8 0 sent;
     sends = all-tabulate ValidSends 8 0 sent sent-valid;
     sent = λ p h. sent-there p (omega arith);
     no-other-sends = all-drop-tabulate (λ y. y ≡ no_sends) (length sc.settings.ports) 8 0 sent (λ p h. none-sent p (omega arith));
@@ -909,27 +909,27 @@ unfolding settle declaring deciding decide_owns sender_at
 settle-keeps b now small later v = record {
   settings = v.settings;
   clock = small;
-  eight-totals = length-tabulate 8 0 (totals_on sc now s);
+  eight_totals = length-tabulate 8 0 (totals_on sc now s);
   totals = rw (held-dropped (map declare decisions), held-declared decisions, held-decided sc now s s) (settled-totals sc now s);
-  eight-owns = length-tabulate 8 0 (decide_own st now b.owns);
+  eight_owns = length-tabulate 8 0 (decide_own st now b.owns);
   owns = all-tabulate (ValidOwn now st.leave_time) 8 0 (decide_own st now b.owns) (own-valid st b.clock now later b.owns v.owns);
   no-other-owns =
       all-drop-tabulate (λ o. o ≡ no_own) ports 8 0 (decide_own st now b.owns)
       (λ p h. none-there st b.clock now later b.owns v.owns v.no-other-owns p (omega arith));
-  eight-senders = length-tabulate 8 0 (time_sender st now b.senders);
+  eight_senders = length-tabulate 8 0 (time_sender st now b.senders);
   senders = λ p h.
-      rw (at_place (time_sender st now b.senders) p no_sender (omega (arith, h, v.settings.eight-ports)))
+      rw (at_place (time_sender st now b.senders) p no_sender (omega (arith, h, v.settings.eight_ports)))
       (sender-valid b.clock now later st b.senders p h (v.senders p h));
   no-other-senders =
       all-drop-tabulate (λ x. x ≡ no_sender) ports 8 0 (time_sender st now b.senders)
       (λ p h. no-sender b.clock now later st b.senders p (omega arith) v.no-other-senders);
-  at-most-64 = fewer;
+  at_most_64 = fewer;
   streams =
       all-dropped (λ y. is_held y ≡ true → ValidStream ports now st.leave_time y) (ValidStream ports now st.leave_time) (λ y h k. k h) (map declare decisions)
       (all-mapped (λ y. is_held (declare y) ≡ true → ValidStream ports now st.leave_time (declare y)) (λ y. is_held y ≡ true → ValidStream ports now st.leave_time y) declare
       (λ y k. k) decisions
       (all-mapped (Remaining ports b.clock now st.leave_time) (λ y. is_held (declare y) ≡ true → ValidStream ports now st.leave_time (declare y)) (decide sc now s)
-      (declared-valid sc v.settings.bridge_id v.settings.eight-ports b.clock now later s) s
+      (declared-valid sc v.settings.bridge_id v.settings.eight_ports b.clock now later s) s
       (streams-remain st b.clock now ports later b.streams v.streams)));
   ascending =
       dropped-rising (map declare decisions)
@@ -955,7 +955,7 @@ settle-keeps b now small later v = record {
     fewer =
         let same : length (map declare decisions) ≡ length b.streams =
         length-map decisions declare ∙ length-map s (decide sc now s) ∙ (unfold remain in length-map b.streams (expire st now)) in
-        omega (arith, fewer-dropped (map declare decisions), same, v.at-most-64)
+        omega (arith, fewer-dropped (map declare decisions), same, v.at_most_64)
 
 pub advance-keeps : (b : Bridge) (now : ℕ) → now < 2 ^ 32 → Valid b → Valid (advance b now).bridge
 unfolding advance

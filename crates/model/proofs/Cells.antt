@@ -178,10 +178,10 @@ ready-number ready_failed = (omega arith, omega arith)
 
 -- A valid cell: its numbers fit, come back, and keep the rules.
 
-talker-size : (t : Talker) → length (talker_numbers t) ≡ cell_index.listener
+talker_size : (t : Talker) → length (talker_numbers t) ≡ cell_index.listener
 unfolding talker_numbers fixed_numbers
-talker-size no_talker = refl
-talker-size (talker r) = refl
+talker_size no_talker = refl
+talker_size (talker r) = refl
 
 listener-size : (h : Listener) → length (listener_numbers h) ≡ cell_fields - cell_index.listener
 unfolding listener_numbers
@@ -371,7 +371,7 @@ pub cell-length : (c : Cell) → length (cell_octets c) ≡ cell_size
 unfolding cell_octets cell_numbers width
 cell-length c =
     length-packed-any cell_widths (cell_numbers c)
-    (omega (arith, length-append (talker_numbers c.talks) (listener_numbers c.hears), talker-size c.talks, listener-size c.hears))
+    (omega (arith, length-append (talker_numbers c.talks) (listener_numbers c.hears), talker_size c.talks, listener-size c.hears))
 
 pub cell-octets : (c : Cell) → Octets (cell_octets c)
 unfolding cell_octets

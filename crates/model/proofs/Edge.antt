@@ -101,7 +101,7 @@ unfolding received holding owning sending
 domain-only b p es v a =
     let now = b.clock in
     let stay : apply_all now (p - 1) es b.streams ≡ b.streams = streams-stay now (p - 1) es a b.streams in
-    rw (stay, le-leb (length b.streams) 64 v.at-most-64)
+    rw (stay, le-leb (length b.streams) 64 v.at_most_64)
     record {
       accepted = refl;
       settings = refl;

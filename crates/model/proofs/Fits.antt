@@ -126,7 +126,7 @@ sends-read x w = sends-coded.back x (fit-sends x w)
 
 module _ (x : Stream) (w : FitStream x) where
   eight : Eights x
-  eight = record { cells = w.eight_cells; results = w.eight-results; sends = w.eight-sends }
+  eight = record { cells = w.eight_cells; results = w.eight_results; sends = w.eight_sends }
 
   pub stream-size : length (stream_octets x) ≡ record_size
   stream-size = stream-length x eight
@@ -157,8 +157,8 @@ module _ (x : Stream) (w : FitStream x) where
         results-of x eight,
         sends-of x eight,
         many_read cell_size cell_octets 8 to_cell x.cells w.eight_cells (cells-sized x.cells) cs,
-        many_read result_size result_octets 8 to_result x.results w.eight-results (results-sized x.results) rs,
-        many_read sends_size sends_octets 8 to_sends x.sends w.eight-sends (sends-sized x.sends) ss,
+        many_read result_size result_octets 8 to_result x.results w.eight_results (results-sized x.results) rs,
+        many_read sends_size sends_octets 8 to_sends x.sends w.eight_sends (sends-sized x.sends) ss,
       )
 
 -- A bridge.
@@ -254,9 +254,9 @@ module _ (ports clock leave : ℕ) (small : clock < 2 ^ 32) where
     rank = v.settled.rank;
     eight_cells = v.eight_cells;
     cells = all_map (ValidCell clock leave) FitCell valid-cell-fits x.cells v.cells;
-    eight-results = v.eight-results;
+    eight_results = v.eight_results;
     results = all_map (ValidResult clock) FitResult valid-result-fits x.results v.results;
-    eight-sends = v.eight-sends;
+    eight_sends = v.eight_sends;
     sends = all_map ValidSends FitSends valid-sends-fit x.sends v.sends;
   }
 
@@ -267,13 +267,13 @@ valid-fits b v =
     record {
       settings = settings-fit b.settings v.settings;
       clock = v.clock;
-      eight-totals = v.eight-totals;
+      eight_totals = v.eight_totals;
       totals = totals-fit _ b.totals b.settings.ports v.settings.ports v.totals;
-      eight-owns = v.eight-owns;
+      eight_owns = v.eight_owns;
       owns = all_map (ValidOwn b.clock t) FitOwn (valid-own-fits b.clock t v.clock) b.owns v.owns;
-      eight-senders = v.eight-senders;
+      eight_senders = v.eight_senders;
       senders = senders-fit b v;
-      at-most-64 = v.at-most-64;
+      at_most_64 = v.at_most_64;
       streams = all_map (ValidStream n b.clock t) FitStream (valid-stream-fits n b.clock t v.clock) b.streams v.streams;
       ascending = rising-ascends (ids b.streams) v.ascending;
     }

@@ -245,7 +245,7 @@ module _ (ports clock leave : ℕ) (sc : Scene) (now : ℕ) (s : List Stream) (x
   unsent-held idle e =
       let (p, h, k) = some-sends x.sends e in
       let z : 0 + p ≡ p = omega arith in
-      sending-there 8 0 sends-then p (omega (arith, h, v.eight-sends))
+      sending-there 8 0 sends-then p (omega (arith, h, v.eight_sends))
       (rw z (still-sending ports clock leave x v idle p (on-port p k) (fixed_of (source_of x)) (result_at (decide sc now s x) p) k))
 
   still-held : is_held (declare (decide sc now s x)) ≡ true

@@ -248,7 +248,7 @@ own-fit-back o f =
       bit-back o.boundary_a,
       bit-back o.boundary_b,
       back,
-      held-read o f.slotted f.addresses.at-most-64,
+      held-read o f.slotted f.addresses.at_most_64,
       addresses-of o f.slotted,
       addresses-back o.addresses f.addresses.each,
     )
@@ -276,7 +276,7 @@ module _ (clock leave : ℕ) (small : clock < 2 ^ 32) where
     own-formed : own_formed clock leave (own_octets o) ≡ true
     unfolding own_formed own_rules
     own-formed =
-        let few = v.addresses.at-most-64 in
+        let few = v.addresses.at_most_64 in
         let l = o.addresses in
         true-all (own_rules clock leave (own_octets o))
         (rw (slots-of o v.slotted) (many-keep (domains-coded clock leave small) slots slots (omega arith) o.domains v.slotted v.domains)
@@ -389,12 +389,12 @@ unfolding no_own macs Rising
 no-own-valid clock leave = record {
   slotted = refl;
   domains = all_replicate (ValidDomain clock leave) slots no_domain tt;
-  addresses = record { at-most-64 = omega arith; each = tt; ascending = tt };
+  addresses = record { at_most_64 = omega arith; each = tt; ascending = tt };
 }
 
 pub owns-coded : (clock leave : ℕ) → clock < 2 ^ 32 → Coded own_size own_octets to_own (own_formed clock leave) (ValidOwn clock leave) no_own
 owns-coded clock leave small = record {
-  size = λ o v. own-length o v.slotted v.addresses.at-most-64;
+  size = λ o v. own-length o v.slotted v.addresses.at_most_64;
   back = own_back clock leave small;
   keeps = own-formed clock leave small;
   forth = own-forth clock leave small;

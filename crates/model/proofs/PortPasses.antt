@@ -38,11 +38,11 @@ own-slots b v p h = (all-at (ValidOwn b.clock b.settings.leave_time) b.owns v.ow
 
 pub listed-port : (b : Bridge) (v : Valid b) (p : ℕ) → p < length b.settings.ports → ListedPort b p
 listed-port b v p here =
-    let inside : p < 8 = omega (arith, here, v.settings.eight-ports) in
+    let inside : p < 8 = omega (arith, here, v.settings.eight_ports) in
     record {
       ascending = v.ascending;
-      sender = omega (arith, inside, v.eight-senders);
-      slots = own-slots b v p (omega (arith, inside, v.eight-owns)) ∙ sym (v.senders p here).slotted;
+      sender = omega (arith, inside, v.eight_senders);
+      slots = own-slots b v p (omega (arith, inside, v.eight_owns)) ∙ sym (v.senders p here).slotted;
     }
 
 -- A write with no LeaveAll due changes no registration.
@@ -148,7 +148,7 @@ module _ (b : Bridge) (v : Valid b) (p : ℕ) (here : p < length b.settings.port
   unfolding leaves_all after_write sender_at moved_sender
   then-due =
       ap (λ (x : Sender). timer.is_active x.leave_all.state)
-      (at_here p (moved_sender f b.clock (leaves_all b p) (own_at b.owns p) domain_place) b.senders no_sender (omega (arith, here, v.eight-senders, v.settings.eight-ports)))
+      (at_here p (moved_sender f b.clock (leaves_all b p) (own_at b.owns p) domain_place) b.senders no_sender (omega (arith, here, v.eight_senders, v.settings.eight_ports)))
       ∙ sent-once b.clock (get_or b.senders p no_sender).leave_all
 
   module _ (none : leaves_all b p ≡ false) where
@@ -239,8 +239,8 @@ module _ (b : Bridge) (p place : ℕ) (v : Valid b) (port : p - 1 < length b.set
   after_is : w.bridge ≡ after_write b (p - 1) place
   after_is = ap (λ (x : Written). x.bridge) (write-gives b p place h)
 
-  next-is : w.next ≡ (wrote_on b (p - 1) place).next
-  next-is = ap (λ (x : Written). x.next) (write-gives b p place h)
+  next_is : w.next ≡ (wrote_on b (p - 1) place).next
+  next_is = ap (λ (x : Written). x.next) (write-gives b p place h)
 
   pub then-declared : declared w.bridge p ≡ (wrote_on b (p - 1) place).list
   unfolding declared
@@ -254,7 +254,7 @@ module _ (b : Bridge) (p place : ℕ) (v : Valid b) (port : p - 1 < length b.set
     valid = rw after_is (after-valid b v (p - 1) place port);
     port = rw after_is (unfold after_write in port);
     none = rw after_is (then-due b v (p - 1) port place);
-    within = rw (then-declared, next-is) (next-within b p place);
+    within = rw (then-declared, next_is) (next-within b p place);
   }
 
   -- From the next place on stands what was behind the run, and nothing else; before it what is left of what was reached.
@@ -262,10 +262,10 @@ module _ (b : Bridge) (p place : ℕ) (v : Valid b) (port : p - 1 < length b.set
   reach = taken (port_way b (p - 1)) (takes_on b (p - 1)) place (declared b p)
 
   pub next-stands : drop w.next (declared w.bridge p) ≡ each (port_way b (p - 1)).outside (behind (port_way b (p - 1)).says reach (drop place (declared b p)))
-  next-stands = rw (next-is, then-declared) (unfold wrote_on declared in (from_next (port_way b (p - 1)) (takes_on b (p - 1)) place (declared b p)))
+  next-stands = rw (next_is, then-declared) (unfold wrote_on declared in (from_next (port_way b (p - 1)) (takes_on b (p - 1)) place (declared b p)))
 
   pub before-next : take w.next (declared w.bridge p) ≡ left_before (port_way b (p - 1)) reach place (declared b p)
-  before-next = rw (next-is, then-declared) (unfold wrote_on declared in (to-next (port_way b (p - 1)) (takes_on b (p - 1)) place (declared b p)))
+  before-next = rw (next_is, then-declared) (unfold wrote_on declared in (to-next (port_way b (p - 1)) (takes_on b (p - 1)) place (declared b p)))
 
   module _ (none : leaves_all b (p - 1) ≡ false) where
     nothing_run : says_nothing w ≡ is_none (wrote_on b (p - 1) place).run
@@ -288,7 +288,7 @@ module _ (b : Bridge) (p place : ℕ) (v : Valid b) (port : p - 1 < length b.set
     on_list : {X : Type 0} (F : Way (Listed Declaration) → (List (Listed Declaration) → ℕ) → ℕ → List (Listed Declaration) → X)
         → F (port_way w.bridge (p - 1)) (takes_on w.bridge (p - 1)) w.next (declared w.bridge p)
         ≡ F (port_way b (p - 1)) (takes_on b (p - 1)) (wrote_on b (p - 1) place).next (wrote_on b (p - 1) place).list
-    on_list F = rw (way_on, takes-on, next-is, then-declared)
+    on_list F = rw (way_on, takes-on, next_is, then-declared)
 
 -- without LeaveAll those that a PDU does not reach stay as they are
 module _ (b : Bridge) (p : ℕ) (none : leaves_all b p ≡ false) where

@@ -115,8 +115,8 @@ module _ (b : Bridge) (p : ℕ) (v : Valid b) (port : p - 1 < length b.settings.
   list-is : declared c p ≡ list takes (port-takes c (p - 1)) room g h (declared b p)
   list-is = then-declared b p 0 v port some ∙ ap (λ (r : Wrote (Listed Declaration)). r.list) first ∙ unfold list in refl
 
-  next-is : (write b p 0).next ≡ next takes (port-takes c (p - 1)) room g h (declared b p)
-  next-is = ap (λ (w : Written). w.next) (write-gives b p 0 some) ∙ ap (λ (r : Wrote (Listed Declaration)). r.next) first ∙ unfold next in refl
+  next_is : (write b p 0).next ≡ next takes (port-takes c (p - 1)) room g h (declared b p)
+  next_is = ap (λ (w : Written). w.next) (write-gives b p 0 some) ∙ ap (λ (r : Wrote (Listed Declaration)). r.next) first ∙ unfold next in refl
 
   -- LeaveAll says something
   pub due-says : says_nothing (write b p 0) ≡ false
@@ -164,11 +164,11 @@ module _ (b : Bridge) (p : ℕ) (v : Valid b) (port : p - 1 < length b.settings.
       ∙ unfold pass_leaving_all in refl
     where
       on_list : left (port_way c (p - 1)) takes (length (declared b p)) (write b p 0).next (declared c p) ≡ left (way false h) takes (length (declared b p)) N L
-      on_list = rw (calm-way c (p - 1) calm-then.none, next-is, list-is)
+      on_list = rw (calm-way c (p - 1) calm-then.none, next_is, list-is)
 
   -- What it says: the run beside LeaveAll, then all that found no room there, in order.
   said-then : saying (port_way c (p - 1)).says (drop (write b p 0).next (declared c p)) ≡ out takes t room g h (declared b p)
-  said-then = rw (calm-way c (p - 1) calm-then.none, next-is, list-is) (unfold left-to-say in (out-said takes t room g h (declared b p)))
+  said-then = rw (calm-way c (p - 1) calm-then.none, next_is, list-is) (unfold left-to-say in (out-said takes t room g h (declared b p)))
 
   pub out-in-pass : to_say c p (write b p 0).next ≡ map (say_on c (p - 1)) (out takes t room g h (declared b p))
   unfolding to_say

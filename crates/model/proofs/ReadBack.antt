@@ -959,7 +959,7 @@ unfolding say_on say
 run-within b h p place = all-run ValidSaid b p place (declarations-within b h (p - 1))
 
 pub valid-few : (b : Bridge) → Valid b → FewStreams b
-valid-few b h = (h.at-most-64, rising-ascends (ids b.streams) h.ascending)
+valid-few b h = (h.at_most_64, rising-ascends (ids b.streams) h.ascending)
 
 -- a neighbour, whatever its settings, that gets a written PDU on one of its ports reads of it exactly the declarations written, each as
 -- its event, and LeaveAll where the PDU has it

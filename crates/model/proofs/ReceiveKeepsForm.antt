@@ -187,13 +187,13 @@ module _ (ports clock leave_time p : ℕ) (here : p < ports) (eight : ports ≤ 
     is-held =
         or_map (held x.cells) (held (at p u x.cells)) (any_sending x.sends) (any_sending (at p m x.sends))
         (held_stays p u x.cells (λ c. port-stays c (u c) (k c))) (λ e. sending-stays p m w.sending x.sends ∙ e) v.is-held;
-    eight-results = v.eight-results;
+    eight_results = v.eight_results;
     results = v.results;
     no-other-results = v.no-other-results;
     idle = λ e. v.idle (omega (arith, talkers-stay u k ports p x.cells here (omega (arith, v.eight_cells))));
     stored = stored-kept u k ports p x.cells here (omega (arith, v.eight_cells)) x.results v.stored;
     one-declares = v.one-declares;
-    eight-sends = length_at p m x.sends ∙ v.eight-sends;
+    eight_sends = length_at p m x.sends ∙ v.eight_sends;
     sends = all_changed ValidSends p m x.sends w.good v.sends;
     sent = λ q h. at_each (λ y. sent_formed (result_at x q) y) p m (λ y. w.sent (result_at x q) y) x.sends q no_sends ∙ v.sent q h;
     no-other-sends = rw (drop-changed ports p m x.sends here) v.no-other-sends;
@@ -215,14 +215,14 @@ module _ (ports clock leave_time p : ℕ) (here : p < ports) (eight : ports ≤ 
             rw (drop-changed ports p u (replicate 8 empty) here)
             (all_drop (λ c. c ≡ empty) ports (replicate 8 empty) (all_replicate (λ c. c ≡ empty) 8 empty refl));
         is-held = rw (held-joined p u (replicate 8 empty) k (omega arith)) refl;
-        eight-results = refl;
+        eight_results = refl;
         results = all_replicate (ValidResult clock) 8 unsettled (unsettled-valid clock);
         no-other-results =
             all_drop (λ r. r ≡ unsettled) ports (replicate 8 unsettled) (all_replicate (λ r. r ≡ unsettled) 8 unsettled refl);
         idle = λ e. refl;
         stored = λ q h. rw (get_or-replicate 8 q unsettled unsettled (omega arith)) (unsettled-stored _ _);
         one-declares = omega (arith, unsettled-declare ports 8);
-        eight-sends = length_at p m (replicate 8 no_sends);
+        eight_sends = length_at p m (replicate 8 no_sends);
         sends = rw none (all_replicate ValidSends 8 no_sends no-sends-valid);
         sent = λ q h.
             rw (none, get_or-replicate 8 q unsettled unsettled (omega arith), get_or-replicate 8 q no_sends no_sends (omega arith)) unsettled-sent;
@@ -452,7 +452,7 @@ module _ (clock leave_time : ℕ) (leaves : 1 ≤ leave_time) where
 
 -- what eight ports hold, and nothing behind the bridge's
 pub record ValidOwns (ports clock leave_time : ℕ) (o : List Own) : Type 0 where
-  pub eight-owns : length o ≡ 8
+  pub eight_owns : length o ≡ 8
   pub owns : All (ValidOwn clock leave_time) o
   pub no-other-owns : All (λ x. x ≡ no_own) (drop ports o)
 
@@ -468,7 +468,7 @@ module _ (ports clock leave_time p : ℕ) (here : p < ports) (leaves : 1 ≤ lea
   own-kept (of_domain d) fits o v =
       let u = change_domains (does_domain clock d) in
       record {
-        eight-owns = length_at p u o ∙ v.eight-owns;
+        eight_owns = length_at p u o ∙ v.eight_owns;
         owns = all_changed (ValidOwn clock leave_time) p u o (own-valid clock leave_time leaves d fits) v.owns;
         no-other-owns = rw (drop-changed ports p u o here) v.no-other-owns;
       }
@@ -482,7 +482,7 @@ module _ (ports clock leave_time p : ℕ) (here : p < ports) (leaves : 1 ≤ lea
 -- What they send by themselves.
 
 pub record ValidSenders (ports clock : ℕ) (own : ℕ → ℕ → Bool) (l : List Sender) : Type 0 where
-  pub eight-senders : length l ≡ 8
+  pub eight_senders : length l ≡ 8
   pub senders : (q : ℕ) → q < ports → ValidSender (own q) clock (sender_at l q)
   pub no-other-senders : All (λ x. x ≡ no_sender) (drop ports l)
 
@@ -490,7 +490,7 @@ module _ (ports clock : ℕ) (own : ℕ → ℕ → Bool) (p : ℕ) (here : p < 
   sender-kept : (a : Act) (l : List Sender) → ValidSenders ports clock own l → ValidSenders ports clock own (at p (moves_sender clock a) l)
   unfolding sender_at
   sender-kept a l v = record {
-    eight-senders = length_at p u l ∙ v.eight-senders;
+    eight_senders = length_at p u l ∙ v.eight_senders;
     senders = λ q h. go q h (ℕ_discrete p q);
     no-other-senders = rw (drop-changed ports p u l here) v.no-other-senders;
   }
@@ -499,7 +499,7 @@ module _ (ports clock : ℕ) (own : ℕ → ℕ → Bool) (p : ℕ) (here : p < 
       u = moves_sender clock a
 
       go : (q : ℕ) → q < ports → Dec (p ≡ q) → ValidSender (own q) clock (sender_at (at p u l) q)
-      go q h (yes e) = rw (← e, at_here p u l no_sender (omega (arith, v.eight-senders))) (sender-moves (own p) clock a (sender_at l p) (v.senders p here))
+      go q h (yes e) = rw (← e, at_here p u l no_sender (omega (arith, v.eight_senders))) (sender-moves (own p) clock a (sender_at l p) (v.senders p here))
       go q h (no n) = rw (at_other p u l q no_sender n) (v.senders q h)
 
   senders-kept : (es : List Act) (l : List Sender) → ValidSenders ports clock own l → ValidSenders ports clock own (apply_senders clock p es l)
@@ -520,7 +520,7 @@ received-keeps b p (acts es) here fits v = go (leb (length s) 64) refl
 
     kept : ValidStreams (length b.settings.ports) b.clock b.settings.leave_time s
     kept =
-        acts-keep (length b.settings.ports) b.clock b.settings.leave_time (p - 1) here v.settings.eight-ports
+        acts-keep (length b.settings.ports) b.clock b.settings.leave_time (p - 1) here v.settings.eight_ports
         v.settings.leaves es fits b.streams (v.streams, v.ascending)
 
     o : List Own
@@ -529,32 +529,32 @@ received-keeps b p (acts es) here fits v = go (leb (length s) 64) refl
     kept-own : ValidOwns (length b.settings.ports) b.clock b.settings.leave_time o
     kept-own =
         owns-kept (length b.settings.ports) b.clock b.settings.leave_time (p - 1) here v.settings.leaves es fits
-        b.owns record { eight-owns = v.eight-owns; owns = v.owns; no-other-owns = v.no-other-owns }
+        b.owns record { eight_owns = v.eight_owns; owns = v.owns; no-other-owns = v.no-other-owns }
 
     l : List Sender
     l = apply_senders b.clock (p - 1) es b.senders
 
     kept-senders : ValidSenders (length b.settings.ports) b.clock (declares_slot b.settings) l
     kept-senders =
-        senders-kept (length b.settings.ports) b.clock (declares_slot b.settings) (p - 1) here v.settings.eight-ports es b.senders
-        record { eight-senders = v.eight-senders; senders = v.senders; no-other-senders = v.no-other-senders }
+        senders-kept (length b.settings.ports) b.clock (declares_slot b.settings) (p - 1) here v.settings.eight_ports es b.senders
+        record { eight_senders = v.eight_senders; senders = v.senders; no-other-senders = v.no-other-senders }
 
     go : (t : Bool) → leb (length s) 64 ≡ t →
         Valid (cond {A = Answer} t record { number = 0; bridge = sending (owning (holding b s) o) l } record { number = 8; bridge = b }).bridge
     go true e = record {
       settings = v.settings;
       clock = v.clock;
-      eight-totals = v.eight-totals;
+      eight_totals = v.eight_totals;
       totals =
           totals-stay (any_held b.streams) (any_held s) (acts-hold b.clock (p - 1) es b.streams) b.totals b.settings.ports
           v.totals;
-      eight-owns = kept-own.eight-owns;
+      eight_owns = kept-own.eight_owns;
       owns = kept-own.owns;
       no-other-owns = kept-own.no-other-owns;
-      eight-senders = kept-senders.eight-senders;
+      eight_senders = kept-senders.eight_senders;
       senders = kept-senders.senders;
       no-other-senders = kept-senders.no-other-senders;
-      at-most-64 = leb-true (length s) 64 e;
+      at_most_64 = leb-true (length s) 64 e;
       streams = kept.0;
       ascending = kept.1;
     }

@@ -553,7 +553,7 @@ receive-nothing-new t p pdu vs o h e a =
     let v : Valid (decode t) = valid-decode t o h.0 in
     let s = ids (decode t).streams in
     let room : length (together s (joins (frame_acts vs))) ≤ 64 =
-    rw (together-held (joins (frame_acts vs)) s v.ascending a, ← held-ids (decode t).streams) v.at-most-64 in
+    rw (together-held (joins (frame_acts vs)) s v.ascending a, ← held-ids (decode t).streams) v.at_most_64 in
     (receive-0 t p pdu).1 (h, (vs, e, room))
 
 -- advance: 9

@@ -222,7 +222,7 @@ settings-fit st v = record {
   leave_time = v.leave_time;
   vlan = omega (arith, v.vlan);
   fan_in = omega (arith, v.fan_in);
-  eight-ports = v.eight-ports;
+  eight_ports = v.eight_ports;
   ports = all_map ValidPort (λ q. Fit port_widths (port_numbers q)) port-fit st.ports v.ports;
 }
 
@@ -238,7 +238,7 @@ module _ (st : Settings) (v : ValidSettings st) (rest : List ℕ) where
       let d = ne_eqb st.priority_a st.priority_b v.different in
       true-all (settings_rules (settings_octets st ++ rest))
       (rw (ports-read st w rest, behind-head st w rest, priority-a-read st w rest, priority-b-read st w rest, leave-read st w rest, vlan-read st w rest, fan-in-read st w rest, d)
-      (le-leb 1 n v.some-port also le-leb n 8 v.eight-ports also refl also le-leb 1 st.leave_time v.leaves also ps
+      (le-leb 1 n v.some-port also le-leb n 8 v.eight_ports also refl also le-leb 1 st.leave_time v.leaves also ps
       also le-leb 1 st.vlan v.some-vlan also le-leb st.vlan 4094 v.vlan also le-leb st.fan_in 8 v.fan_in also tt))
 
 -- Octets that keep the rules are those of the settings that they are read as.
@@ -271,9 +271,9 @@ module _ (s : List ℕ) (r : all_true (settings_rules s) ≡ true) where
   unfolding settings_rules
   some-ports = leb-true 1 (ports_field s) rules.0
 
-  pub eight-ports : ports_field s ≤ 8
+  pub eight_ports : ports_field s ≤ 8
   unfolding settings_rules
-  eight-ports = leb-true (ports_field s) 8 rules.1.0
+  eight_ports = leb-true (ports_field s) 8 rules.1.0
 
   different : be_at 3 s in_head.word / priority_a_unit % 8 ≡ be_at 3 s in_head.word / priority_b_unit % 8 → ⊥
   unfolding settings_rules
@@ -330,13 +330,13 @@ module _ (s : List ℕ) (o : Octets s) (h : port_place (ports_field s) ≤ lengt
         vlan = vlan-few s r;
         fan_in = fan-in-few s r;
         some-port = omega (arith, settings-ports s, some-ports s r);
-        eight-ports = omega (arith, settings-ports s, eight-ports s r);
+        eight_ports = omega (arith, settings-ports s, eight_ports s r);
         ports = every-read port_size port_rule to_port ValidPort port-valid (ports_field s) (drop in_table.ports s) ports-room (octets-drop in_table.ports s o) (port-rules s r);
       }
 
 -- the settings of a table have room for eight ports
 pub settings-room : (s : List ℕ) → length s ≡ settings_size → all_true (settings_rules s) ≡ true → port_place (ports_field s) ≤ length s
-settings-room s l r = omega (arith, eight-ports s r)
+settings-room s l r = omega (arith, eight_ports s r)
 
 -- Settings as they are handed to start: as long as their head and their ports.
 

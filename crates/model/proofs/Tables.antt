@@ -33,7 +33,7 @@ use Rattle.model.proofs.AdvanceKeepsForm.{all-drop-tabulate}
 use Rattle.model.proofs.SendsOctets.{sends-coded, sends-length, sends-octets, sends-parts, sending-append, sending-none}
 use Rattle.model.proofs.SenderOctets.{sender_rule, sender-coded, sender-octets, valid-sender-fits, sender-formed, senders-formed, senders-rule, senders-valid, started-valid, started_none}
 use Rattle.model.proofs.Owns.{own-length, own-octets, own-fit-back, valid-own-fits, owns-coded}
-use Rattle.model.proofs.SettingsOctets.{limit-b-fits, octet-field, settings-length, ports-read, fit-back, settings-fit, settings-rules, settings-ports, settings-taken, settings-valid, settings-room, eight-ports, formed-valid, octets-settings}
+use Rattle.model.proofs.SettingsOctets.{limit-b-fits, octet-field, settings-length, ports-read, fit-back, settings-fit, settings-rules, settings-ports, settings-taken, settings-valid, settings-room, eight_ports, formed-valid, octets-settings}
 
 -- A stream's record: StreamID and settled values, cells, results, what is sent.
 
@@ -201,18 +201,18 @@ module _ (ports clock leave : ℕ) (few : ports ≤ 8) (small : clock < 2 ^ 32) 
     settled-read = ap (fixed_from 1) (name-read x name-fit) ∙ fixed_back x.settled v.settled (x.id ∷ []) []
 
     eight : Eights x
-    eight = record { cells = v.eight_cells; results = v.eight-results; sends = v.eight-sends }
+    eight = record { cells = v.eight_cells; results = v.eight_results; sends = v.eight_sends }
 
     cells-back : parts cell_size to_cell 8 (flat cell_octets x.cells) ≡ x.cells
     cells-back = many-back cells-coded ports 8 few x.cells v.eight_cells v.cells
 
     sends-back : parts sends_size to_sends 8 (flat sends_octets x.sends) ≡ x.sends
-    sends-back = many-back sends-coded ports 8 few x.sends v.eight-sends v.sends
+    sends-back = many-back sends-coded ports 8 few x.sends v.eight_sends v.sends
 
     pub stream-back : to_stream (stream_octets x) ≡ x
     unfolding to_stream id_of
     stream-back =
-        let rs = many-back results-coded ports 8 few x.results v.eight-results v.results in
+        let rs = many-back results-coded ports 8 few x.results v.eight_results v.results in
         rw (id-read x name-fit, settled-read, cells_of x eight, results-of x eight, sends-of x eight, cells-back, rs, sends-back)
 
     held-there : (holds ports (flat cell_octets x.cells) || sends ports (flat sends_octets x.sends)) ≡ true
@@ -234,13 +234,13 @@ module _ (ports clock leave : ℕ) (few : ports ≤ 8) (small : clock < 2 ^ 32) 
         also many-keep cells-coded ports 8 few x.cells v.eight_cells v.cells
         also held-there
         also many-rest cells-coded ports 8 few x.cells v.eight_cells v.cells v.no-other-cells
-        also many-keep results-coded ports 8 few x.results v.eight-results v.results
+        also many-keep results-coded ports 8 few x.results v.eight_results v.results
         also ports-kept (stored_formed n) empty unsettled ports x.cells x.results v.stored
         also le-leb (declarers ports x.results) 1 v.one-declares
-        also many-rest results-coded ports 8 few x.results v.eight-results v.results v.no-other-results
-        also many-keep sends-coded ports 8 few x.sends v.eight-sends v.sends
+        also many-rest results-coded ports 8 few x.results v.eight_results v.results v.no-other-results
+        also many-keep sends-coded ports 8 few x.sends v.eight_sends v.sends
         also ports-kept sent_formed unsettled no_sends ports x.results x.sends v.sent
-        also many-rest sends-coded ports 8 few x.sends v.eight-sends v.sends v.no-other-sends
+        also many-rest sends-coded ports 8 few x.sends v.eight_sends v.sends v.no-other-sends
         also tt))
 
   module _ (s : List ℕ) (l : length s ≡ record_size) (o : Octets s) (f : stream_formed ports clock leave s ≡ true) where
@@ -363,7 +363,7 @@ module _ (ports clock leave : ℕ) (few : ports ≤ 8) (small : clock < 2 ^ 32) 
       cells = many-valid cells-coded ports 8 few (cells_part s) cells-room cells-octets cells-kept cells-zero;
       no-other-cells = other-cells;
       is-held = ap₂ (λ (a b : Bool). a || b) (sym record-holds) (sym (some-sends ports 8 (all_sends_part s) few other-sends)) ∙ held_kept;
-      eight-results = length-parts result_size to_result 8 (results_part s);
+      eight_results = length-parts result_size to_result 8 (results_part s);
       results = many-valid results-coded ports 8 few (results_part s) results-room results-octets results-kept results-zero;
       no-other-results = many-others results-coded ports 8 few (results_part s) results-room results-octets results-kept results-zero;
       idle = λ e. zero-none (fields name_widths 0 s) (implied (eqb (talkers ports (to_stream s).cells) 0) _ idle-kept (eq-eqb _ 0 e));
@@ -371,7 +371,7 @@ module _ (ports clock leave : ℕ) (few : ports ≤ 8) (small : clock < 2 ^ 32) 
           port-kept (stored_formed (talkers ports (to_stream s).cells)) empty unsettled ports (to_stream s).cells (to_stream s).results stored-kept p h
           (omega (arith, length-parts cell_size to_cell 8 (cells_part s))) (omega (arith, length-parts result_size to_result 8 (results_part s)));
       one-declares = one_kept;
-      eight-sends = length-parts sends_size to_sends 8 (all_sends_part s);
+      eight_sends = length-parts sends_size to_sends 8 (all_sends_part s);
       sends = many-valid sends-coded ports 8 few (all_sends_part s) sends-room octets-sends sends-kept sends-zero;
       sent = λ p h.
           port-kept sent_formed unsettled no_sends ports (to_stream s).results (to_stream s).sends sent-kept p h
@@ -555,13 +555,13 @@ octets-encode b =
 
 -- what gives each part of the table its place
 pub record Whole (b : Bridge) : Type 0 where
-  pub eight-ports : length b.settings.ports ≤ 8
-  pub eight-totals : length b.totals ≡ 8
-  pub eight-owns : length b.owns ≡ 8
+  pub eight_ports : length b.settings.ports ≤ 8
+  pub eight_totals : length b.totals ≡ 8
+  pub eight_owns : length b.owns ≡ 8
   pub owns : All (Sized own_size own_octets) b.owns
-  pub eight-senders : length b.senders ≡ 8
+  pub eight_senders : length b.senders ≡ 8
   pub senders : All (Sized sender_size sender_octets) b.senders
-  pub at-most-64 : length b.streams ≤ 64
+  pub at_most_64 : length b.streams ≤ 64
   pub streams : All (Sized record_size stream_octets) b.streams
 
 -- what the ports send fits: what holds of each of the first n, and of all behind them, holds of all
@@ -583,30 +583,30 @@ fit-senders-sized = all_map FitSender (Sized sender_size sender_octets) sender-c
 
 pub valid-whole : (b : Bridge) → Valid b → Whole b
 valid-whole b v = record {
-  eight-ports = v.settings.eight-ports;
-  eight-totals = v.eight-totals;
-  eight-owns = v.eight-owns;
-  owns = all_map (ValidOwn b.clock b.settings.leave_time) (Sized own_size own_octets) (λ o w. own-length o w.slotted w.addresses.at-most-64) b.owns v.owns;
-  eight-senders = v.eight-senders;
+  eight_ports = v.settings.eight_ports;
+  eight_totals = v.eight_totals;
+  eight_owns = v.eight_owns;
+  owns = all_map (ValidOwn b.clock b.settings.leave_time) (Sized own_size own_octets) (λ o w. own-length o w.slotted w.addresses.at_most_64) b.owns v.owns;
+  eight_senders = v.eight_senders;
   senders = fit-senders-sized b.senders (senders-fit b v);
-  at-most-64 = v.at-most-64;
+  at_most_64 = v.at_most_64;
   streams =
       all_map (ValidStream (length b.settings.ports) b.clock b.settings.leave_time) (Sized record_size stream_octets)
-      (λ x w. stream-length x record { cells = w.eight_cells; results = w.eight-results; sends = w.eight-sends }) b.streams v.streams;
+      (λ x w. stream-length x record { cells = w.eight_cells; results = w.eight_results; sends = w.eight_sends }) b.streams v.streams;
 }
 
 pub fit-whole : (b : Bridge) → FitBridge b → Whole b
 fit-whole b f = record {
-  eight-ports = f.settings.eight-ports;
-  eight-totals = f.eight-totals;
-  eight-owns = f.eight-owns;
-  owns = all_map FitOwn (Sized own_size own_octets) (λ o w. own-length o w.slotted w.addresses.at-most-64) b.owns f.owns;
-  eight-senders = f.eight-senders;
+  eight_ports = f.settings.eight_ports;
+  eight_totals = f.eight_totals;
+  eight_owns = f.eight_owns;
+  owns = all_map FitOwn (Sized own_size own_octets) (λ o w. own-length o w.slotted w.addresses.at_most_64) b.owns f.owns;
+  eight_senders = f.eight_senders;
   senders = fit-senders-sized b.senders f.senders;
-  at-most-64 = f.at-most-64;
+  at_most_64 = f.at_most_64;
   streams =
       all_map FitStream (Sized record_size stream_octets)
-      (λ x w. stream-length x record { cells = w.eight_cells; results = w.eight-results; sends = w.eight-sends }) b.streams f.streams;
+      (λ x w. stream-length x record { cells = w.eight_cells; results = w.eight_results; sends = w.eight_sends }) b.streams f.streams;
 }
 
 pub clock-length : (b : Bridge) → length (clock_and_count b) ≡ clock_size
@@ -617,22 +617,22 @@ module _ (b : Bridge) (w : Whole b) where
   pub settings-whole-length : length (settings_whole b) ≡ settings_size
   settings-whole-length =
       let n = length b.settings.ports in
-      let h : n ≤ 8 = w.eight-ports in
+      let h : n ≤ 8 = w.eight_ports in
       length-append (settings_octets b.settings) (zeros ((8 - n) * port_size)) ∙ omega (arith, settings-length b.settings, length-zeros ((8 - n) * port_size))
 
   pub totals-whole-length : length (totals_whole b) ≡ totals_size
-  totals-whole-length = omega (arith, length-flat-sized total_size totals_octets b.totals (totals-sized b.totals), w.eight-totals)
+  totals-whole-length = omega (arith, length-flat-sized total_size totals_octets b.totals (totals-sized b.totals), w.eight_totals)
 
   pub owns-whole-length : length (owns_whole b) ≡ owns_size
-  owns-whole-length = omega (arith, length-flat-sized own_size own_octets b.owns w.owns, w.eight-owns)
+  owns-whole-length = omega (arith, length-flat-sized own_size own_octets b.owns w.owns, w.eight_owns)
 
   pub senders-whole-length : length (senders_whole b) ≡ senders_size
-  senders-whole-length = omega (arith, length-flat-sized sender_size sender_octets b.senders w.senders, w.eight-senders)
+  senders-whole-length = omega (arith, length-flat-sized sender_size sender_octets b.senders w.senders, w.eight_senders)
 
   pub records-whole-length : length (records_whole b) ≡ records_size
   records-whole-length =
       let n = length b.streams in
-      let h : n ≤ 64 = w.at-most-64 in
+      let h : n ≤ 64 = w.at_most_64 in
       length-append (flat stream_octets b.streams) (zeros ((64 - n) * record_size))
       ∙ omega (arith, length-flat-sized record_size stream_octets b.streams w.streams, length-zeros ((64 - n) * record_size))
 
@@ -695,7 +695,7 @@ module _ (b : Bridge) (w : Whole b) where
     numbers-read : fields clock_widths in_table.clock (encode b) ≡ b.clock ∷ length b.streams ∷ []
     unfolding Fit
     numbers-read =
-        let h : length b.streams ≤ 64 = w.at-most-64 in
+        let h : length b.streams ≤ 64 = w.at_most_64 in
         ap (fields clock_widths in_table.clock) (encode-parts b)
         ∙ ap (λ (k : ℕ). fields clock_widths k (settings_whole b ++ (clock_and_count b ++ (totals_whole b ++ behind_totals b)))) (sym settings-whole-length)
         ∙ fields-packed-behind clock_widths (b.clock ∷ length b.streams ∷ []) (settings_whole b) (totals_whole b ++ behind_totals b) (small also omega arith also tt)
@@ -714,16 +714,16 @@ module _ (b : Bridge) (w : Whole b) where
   pub totals-decoded : All FitTotals b.totals → parts total_size to_totals 8 (totals_part (encode b)) ≡ b.totals
   totals-decoded f =
       ap (parts total_size to_totals 8) totals-read
-      ∙ many_read total_size totals_octets 8 to_totals b.totals w.eight-totals (totals-sized b.totals)
+      ∙ many_read total_size totals_octets 8 to_totals b.totals w.eight_totals (totals-sized b.totals)
       (all_map FitTotals (λ t. to_totals (totals_octets t) ≡ t) totals-back b.totals f)
 
   pub owns-decoded : All FitOwn b.owns → parts own_size to_own 8 (owns_part (encode b)) ≡ b.owns
   owns-decoded f =
       ap (parts own_size to_own 8) owns-read
-      ∙ many_read own_size own_octets 8 to_own b.owns w.eight-owns w.owns (all_map FitOwn (λ o. to_own (own_octets o) ≡ o) own-fit-back b.owns f)
+      ∙ many_read own_size own_octets 8 to_own b.owns w.eight_owns w.owns (all_map FitOwn (λ o. to_own (own_octets o) ≡ o) own-fit-back b.owns f)
 
   pub senders-decoded : All FitSender b.senders → parts sender_size to_sender 8 (senders_part (encode b)) ≡ b.senders
-  senders-decoded f = ap (parts sender_size to_sender 8) senders-read ∙ many-back sender-coded 8 8 (omega arith) b.senders w.eight-senders f
+  senders-decoded f = ap (parts sender_size to_sender 8) senders-read ∙ many-back sender-coded 8 8 (omega arith) b.senders w.eight_senders f
 
 -- A valid bridge is read back from its table, which keeps the form rules.
 
@@ -754,7 +754,7 @@ module _ (b : Bridge) (v : Valid b) where
       rw (count-read b whole v.clock, records-read b whole)
       (parts-flat record_size stream_octets to_stream b.streams (zeros ((64 - length b.streams) * record_size)) whole.streams
       (all_map (ValidStream n b.clock b.settings.leave_time) (λ x. to_stream (stream_octets x) ≡ x)
-      (stream-back n b.clock b.settings.leave_time v.settings.eight-ports v.clock) b.streams v.streams))
+      (stream-back n b.clock b.settings.leave_time v.settings.eight_ports v.clock) b.streams v.streams))
 
   pub decode-encode : decode (encode b) ≡ b
   unfolding decode
@@ -791,41 +791,41 @@ module _ (b : Bridge) (v : Valid b) where
       let rule = stream_formed n b.clock b.settings.leave_time in
       every-flat record_size stream_octets rule b.streams (zeros ((64 - length b.streams) * record_size)) whole.streams
       (all_map (ValidStream n b.clock b.settings.leave_time) (λ x. rule (stream_octets x) ≡ true)
-      (stream-formed n b.clock b.settings.leave_time v.settings.eight-ports v.clock) b.streams v.streams)
+      (stream-formed n b.clock b.settings.leave_time v.settings.eight_ports v.clock) b.streams v.streams)
 
   owns-formed : every_part own_size (own_formed b.clock b.settings.leave_time) (length b.settings.ports) (flat own_octets b.owns) ≡ true
   owns-formed =
-      many-keep (owns-coded b.clock b.settings.leave_time v.clock) (length b.settings.ports) 8 v.settings.eight-ports b.owns
-      v.eight-owns v.owns
+      many-keep (owns-coded b.clock b.settings.leave_time v.clock) (length b.settings.ports) 8 v.settings.eight_ports b.owns
+      v.eight_owns v.owns
 
   owns-rest : all_zero (drop (length b.settings.ports * own_size) (flat own_octets b.owns)) ≡ true
   owns-rest =
-      many-rest (owns-coded b.clock b.settings.leave_time v.clock) (length b.settings.ports) 8 v.settings.eight-ports b.owns
-      v.eight-owns v.owns v.no-other-owns
+      many-rest (owns-coded b.clock b.settings.leave_time v.clock) (length b.settings.ports) 8 v.settings.eight_ports b.owns
+      v.eight_owns v.owns v.no-other-owns
 
   ports-send : senders_formed b.settings b.clock 0 (length b.settings.ports) (flat sender_octets b.senders) ≡ true
   unfolding sender_at
   ports-send =
       let n = length b.settings.ports in
-      senders-formed b.settings b.clock 0 n b.senders (omega (arith, v.eight-senders, v.settings.eight-ports)) whole.senders
+      senders-formed b.settings b.clock 0 n b.senders (omega (arith, v.eight_senders, v.settings.eight_ports)) whole.senders
       (λ q h. let e : 0 + q ≡ q = omega arith in
       rw e (sender-formed (declares_slot b.settings q) b.clock v.clock (sender_at b.senders q) (v.senders q h)))
 
   others-send : all_zero (drop (length b.settings.ports * sender_size) (flat sender_octets b.senders)) ≡ true
   others-send =
-      many-rest sender-coded (length b.settings.ports) 8 v.settings.eight-ports b.senders v.eight-senders (senders-fit b v) v.no-other-senders
+      many-rest sender-coded (length b.settings.ports) 8 v.settings.eight_ports b.senders v.eight_senders (senders-fit b v) v.no-other-senders
 
   -- some stream has a registration
   some-held : any_holds (length b.settings.ports) (length b.streams) (records_whole b) ≡ any_held b.streams
   some-held =
       let n = length b.settings.ports in
       let l = b.streams in
-      any-holds n b.clock b.settings.leave_time v.settings.eight-ports v.clock (length l) (records_whole b)
-      (omega (arith, records-whole-length b whole, v.at-most-64)) octets-records streams-formed
+      any-holds n b.clock b.settings.leave_time v.settings.eight_ports v.clock (length l) (records_whole b)
+      (omega (arith, records-whole-length b whole, v.at_most_64)) octets-records streams-formed
       ∙ ap any_held
       (parts-flat record_size stream_octets to_stream l (zeros ((64 - length l) * record_size)) whole.streams
       (all_map (ValidStream n b.clock b.settings.leave_time) (λ x. to_stream (stream_octets x) ≡ x)
-      (stream-back n b.clock b.settings.leave_time v.settings.eight-ports v.clock) l v.streams))
+      (stream-back n b.clock b.settings.leave_time v.settings.eight_ports v.clock) l v.streams))
     where
       octets-records : Octets (records_whole b)
       octets-records =
@@ -848,7 +848,7 @@ module _ (b : Bridge) (v : Valid b) where
       also rw (ports-same, owns-read b whole) owns-rest
       also rw (ports-same, clock, settings-same, senders-read b whole) ports-send
       also rw (ports-same, senders-read b whole) others-send
-      also rw count (le-leb (length b.streams) 64 v.at-most-64)
+      also rw count (le-leb (length b.streams) 64 v.at_most_64)
       also rw (ports-same, clock, settings-same, count, records-read b whole) streams-formed
       also ids-rise
       also records-rest
@@ -957,7 +957,7 @@ module _ (t : List ℕ) (o : Octets t) (f : formed t ≡ true) where
   senders-ruled : every_part sender_size sender_rule (ports_field (settings_part t)) (senders_part t) ≡ true
   senders-ruled =
       senders-rule (to_settings (settings_part t)) (clock_field t) 0 (ports_field (settings_part t)) (senders_part t)
-      (omega (arith, senders-room t f, eight-ports (settings_part t) (settings-kept t f))) (senders-kept t f)
+      (omega (arith, senders-room t f, eight_ports (settings_part t) (settings-kept t f))) (senders-kept t f)
 
   octets-records-part : Octets (records_part t)
   unfolding records_part
@@ -980,7 +980,7 @@ module _ (t : List ℕ) (o : Octets t) (f : formed t ≡ true) where
       let n = count_field t in
       let p = ports_field s in
       let e = settings-ports s in
-      let h = eight-ports s (settings-kept t f) in
+      let h = eight_ports s (settings-kept t f) in
       let l = (to_settings s).leave_time in
       let rs = records_part t in
       let coded = owns-coded (clock_field t) l clock-fits in
@@ -991,17 +991,17 @@ module _ (t : List ℕ) (o : Octets t) (f : formed t ≡ true) where
       record {
         settings = settings-valid s octets-settings-part ports-fit (settings-kept t f);
         clock = clock-fits;
-        eight-totals = length-parts total_size to_totals 8 (totals_part t);
+        eight_totals = length-parts total_size to_totals 8 (totals_part t);
         totals = rw (← any-holds p (clock_field t) l h clock-fits n rs streams-fit octets-records-part (streams-kept t f)) (totals-kept t f);
-        eight-owns = length-parts own_size to_own 8 (owns_part t);
+        eight_owns = length-parts own_size to_own 8 (owns_part t);
         owns = many-valid coded p 8 h (owns_part t) (owns-room t f) octets-owns-part (owns-kept t f) (owns-zero t f);
         no-other-owns = rw e (many-others coded p 8 h (owns_part t) (owns-room t f) octets-owns-part (owns-kept t f) (owns-zero t f));
-        eight-senders = length-parts sender_size to_sender 8 (senders_part t);
+        eight_senders = length-parts sender_size to_sender 8 (senders_part t);
         senders = λ q g.
             let z : 0 + q ≡ q = omega arith in
             rw z at (senders-valid (to_settings s) (clock_field t) 0 p 8 (senders_part t) h (omega (arith, senders-room t f, h)) (senders-kept t f) q (omega (arith, e, g)));
         no-other-senders = rw e (many-others sender-coded p 8 h (senders_part t) (senders-room t f) octets-senders-part senders-ruled (senders-zero t f));
-        at-most-64 = omega (arith, length-parts record_size to_stream n rs, count_kept t f);
+        at_most_64 = omega (arith, length-parts record_size to_stream n rs, count_kept t f);
         streams = rw e read;
         ascending = rising-rises (ids (parts record_size to_stream n rs)) rise;
       }
@@ -1012,7 +1012,7 @@ module _ (t : List ℕ) (o : Octets t) (f : formed t ≡ true) where
       let s = settings_part t in
       let e = settings-ports s in
       let k : length (drop (port_place (ports_field s)) s) ≡ (8 - length (to_settings s).ports) * port_size =
-      length-drop (port_place (ports_field s)) s ∙ omega (arith, settings-room-length t f, eight-ports s (settings-kept t f)) in
+      length-drop (port_place (ports_field s)) s ∙ omega (arith, settings-room-length t f, eight_ports s (settings-kept t f)) in
       let z = zeros-zero (drop (port_place (ports_field s)) s) (settings-zero t f) ∙ ap zeros k in
       rw (← z, settings-taken s octets-settings-part ports-fit (settings-kept t f)) (take-append-drop (port_place (ports_field s)) s)
 
@@ -1033,14 +1033,14 @@ module _ (t : List ℕ) (o : Octets t) (f : formed t ≡ true) where
   unfolding decode
   owns-written =
       let s = settings_part t in
-      many-forth (owns-coded (clock_field t) (to_settings s).leave_time clock-fits) (ports_field s) 8 (eight-ports s (settings-kept t f))
+      many-forth (owns-coded (clock_field t) (to_settings s).leave_time clock-fits) (ports_field s) 8 (eight_ports s (settings-kept t f))
       (owns_part t) (owns-room t f) octets-owns-part (owns-kept t f) (owns-zero t f)
 
   senders-written : senders_whole (decode t) ≡ senders_part t
   unfolding decode
   senders-written =
       let s = settings_part t in
-      many-forth sender-coded (ports_field s) 8 (eight-ports s (settings-kept t f)) (senders_part t) (senders-room t f) octets-senders-part senders-ruled
+      many-forth sender-coded (ports_field s) 8 (eight_ports s (settings-kept t f)) (senders_part t) (senders-room t f) octets-senders-part senders-ruled
       (senders-zero t f)
 
   records-written : records_whole (decode t) ≡ records_part t
@@ -1051,7 +1051,7 @@ module _ (t : List ℕ) (o : Octets t) (f : formed t ≡ true) where
       let n = count_field t in
       let p = ports_field s in
       let l = (to_settings s).leave_time in
-      let h = eight-ports s (settings-kept t f) in
+      let h = eight_ports s (settings-kept t f) in
       let w =
       every-forth record_size (stream_formed p (clock_field t) l) to_stream stream_octets (stream-forth p (clock_field t) l h clock-fits)
       n r streams-fit octets-records-part (streams-kept t f) in
@@ -1083,17 +1083,17 @@ unfolding started ids Rising sender_at
 valid-started s o f = record {
   settings = formed-valid s o f;
   clock = omega arith;
-  eight-totals = refl;
+  eight_totals = refl;
   totals = none_within _ 8 (to_settings s).ports;
-  eight-owns = refl;
+  eight_owns = refl;
   owns = all_replicate (ValidOwn 0 (to_settings s).leave_time) 8 no_own (owns-coded 0 (to_settings s).leave_time (omega arith)).good;
   no-other-owns = all_drop (λ o. o ≡ no_own) (length (to_settings s).ports) (replicate 8 no_own) (all_replicate (λ o. o ≡ no_own) 8 no_own refl);
-  eight-senders = length-tabulate _ 8 0;
+  eight_senders = length-tabulate _ 8 0;
   senders = λ p h.
-      rw (at_place (started_sender (to_settings s)) p no_sender (omega (arith, (formed-valid s o f).eight-ports, h))) (started-valid (to_settings s) p);
+      rw (at_place (started_sender (to_settings s)) p no_sender (omega (arith, (formed-valid s o f).eight_ports, h))) (started-valid (to_settings s) p);
   no-other-senders =
       all-drop-tabulate (λ x. x ≡ no_sender) (length (to_settings s).ports) 8 0 (started_sender (to_settings s)) (λ p h. started_none (to_settings s) p (omega (arith, h)));
-  at-most-64 = omega arith;
+  at_most_64 = omega arith;
   streams = tt;
   ascending = tt;
 }

@@ -71,10 +71,10 @@ all_say f (x ∷ l) = go (f x) refl (all_say f l)
 listed-port : (b : Bridge) (p : ℕ) → Valid b → wrong_port b.settings p ≡ false → ListedPort b (p - 1)
 listed-port b p v e =
     let there : p - 1 < length b.settings.ports = right-port b.settings p e in
-    let small : p - 1 < 8 = omega (arith, there, v.settings.eight-ports) in
+    let small : p - 1 < 8 = omega (arith, there, v.settings.eight_ports) in
     record {
       ascending = v.ascending;
-      sender = omega (arith, small, v.eight-senders);
+      sender = omega (arith, small, v.eight_senders);
       slots = all_get_or (λ o. length o.domains ≡ slots) b.owns (all_map (ValidOwn b.clock b.settings.leave_time) (λ o. length o.domains ≡ slots) (λ o w. w.slotted) b.owns v.owns) no_own (unfold no_own in (length-replicate slots no_domain)) (p - 1)
           ∙ sym (v.senders (p - 1) there).slotted;
     }
@@ -131,7 +131,7 @@ module _ (b : Bridge) (p place : ℕ) (h : Passing b p place) where
   next-silent : leaves_all next-bridge (p - 1) ≡ false
   unfolding leaves_all next-bridge after_write sender_at moved_sender
   next-silent =
-      ap (λ (x : Sender). timer.is_active x.leave_all.state) (at_here (p - 1) _ b.senders no_sender (omega (arith, port-there, h.valid.settings.eight-ports, h.valid.eight-senders)))
+      ap (λ (x : Sender). timer.is_active x.leave_all.state) (at_here (p - 1) _ b.senders no_sender (omega (arith, port-there, h.valid.settings.eight_ports, h.valid.eight_senders)))
       ∙ ap (λ (t : Bool). timer.is_active (cond t (timer.leave_all_next b.clock timer.tx (get_or b.senders (p - 1) no_sender).leave_all) (get_or b.senders (p - 1) no_sender).leave_all).state) h.silent
       ∙ h.silent
 
@@ -332,7 +332,7 @@ module _ (a : Bridge) (p : ℕ) (start : Passing a p 0) (b : Bridge) (v : Valid 
   took = took-all runs (pass-reads (length (saying (λ x. speaks tx x.state) (declarations a (p - 1)))) a p 0 start) b q right all
 
   place : q - 1 < 8
-  place = omega (arith, right-port b.settings q right, v.settings.eight-ports)
+  place = omega (arith, right-port b.settings q right, v.settings.eight_ports)
 
   pass-whole : {X : Type 0} (effect : Effect X) (c : X)
       → effect.after (flat_map said_acts (flatten runs)) c ≡ effect.after (flat_map asks_acts (declarations a (p - 1))) c
@@ -369,7 +369,7 @@ module _ (a : Bridge) (p : ℕ) (start : Passing a p 0) (b : Bridge) (v : Valid 
 
     there : Slot b.clock j (q - 1) b.owns
     there = (
-      omega (arith, place, v.eight-owns),
+      omega (arith, place, v.eight_owns),
       omega (arith, slot, all_get_or (λ o. length o.domains ≡ slots) b.owns (all_map (ValidOwn b.clock b.settings.leave_time) (λ o. length o.domains ≡ slots) (λ o w. w.slotted) b.owns v.owns) no_own (unfold no_own in (length-replicate slots no_domain)) (q - 1)),
     )
 

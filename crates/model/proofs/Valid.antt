@@ -33,7 +33,7 @@ pub record ValidSettings (st : Settings) : Type 0 where
   pub vlan : st.vlan ≤ 4094
   pub fan_in : st.fan_in ≤ 8
   pub some-port : 1 ≤ length st.ports
-  pub eight-ports : length st.ports ≤ 8
+  pub eight_ports : length st.ports ≤ 8
   pub ports : All ValidPort st.ports
 
 -- at a bridge with this clock and leave time
@@ -99,7 +99,7 @@ Rising [] = Unit {0}
 Rising (i ∷ l) = All (λ j. i < j) l × Rising l
 
 pub record ValidAddresses (clock leave : ℕ) (l : List Address) : Type 0 where
-  pub at-most-64 : length l ≤ most_addresses
+  pub at_most_64 : length l ≤ most_addresses
   pub each : All (ValidAddress clock leave) l
   pub ascending : Rising (macs l)
 
@@ -158,13 +158,13 @@ pub record ValidStream (ports clock leave : ℕ) (x : Stream) : Type 0 where
   pub cells : All (ValidCell clock leave) x.cells
   pub no-other-cells : All (λ c. c ≡ empty) (drop ports x.cells)
   pub is-held : is_held x ≡ true
-  pub eight-results : length x.results ≡ 8
+  pub eight_results : length x.results ≡ 8
   pub results : All (ValidResult clock) x.results
   pub no-other-results : All (λ r. r ≡ unsettled) (drop ports x.results)
   pub idle : talkers ports x.cells ≡ 0 → x.settled ≡ no_fixed
   pub stored : (p : ℕ) → p < ports → stored_formed (talkers ports x.cells) (cell_at x p) (result_at x p) ≡ true
   pub one-declares : declarers ports x.results ≤ 1
-  pub eight-sends : length x.sends ≡ 8
+  pub eight_sends : length x.sends ≡ 8
   pub sends : All ValidSends x.sends
   pub sent : (p : ℕ) → p < ports → sent_formed (result_at x p) (sends_at x p) ≡ true
   pub no-other-sends : All (λ s. s ≡ no_sends) (drop ports x.sends)
@@ -192,14 +192,14 @@ pub record ValidSender (own : ℕ → Bool) (clock : ℕ) (x : Sender) : Type 0 
 pub record Valid (b : Bridge) : Type 0 where
   pub settings : ValidSettings b.settings
   pub clock : b.clock < 2 ^ 32
-  pub eight-totals : length b.totals ≡ 8
+  pub eight_totals : length b.totals ≡ 8
   pub totals : totals_within (any_held b.streams) b.totals b.settings.ports ≡ true
-  pub eight-owns : length b.owns ≡ 8
+  pub eight_owns : length b.owns ≡ 8
   pub owns : All (ValidOwn b.clock b.settings.leave_time) b.owns
   pub no-other-owns : All (λ o. o ≡ no_own) (drop (length b.settings.ports) b.owns)
-  pub eight-senders : length b.senders ≡ 8
+  pub eight_senders : length b.senders ≡ 8
   pub senders : (p : ℕ) → p < length b.settings.ports → ValidSender (declares_slot b.settings p) b.clock (sender_at b.senders p)
   pub no-other-senders : All (λ x. x ≡ no_sender) (drop (length b.settings.ports) b.senders)
-  pub at-most-64 : length b.streams ≤ 64
+  pub at_most_64 : length b.streams ≤ 64
   pub streams : All (ValidStream (length b.settings.ports) b.clock b.settings.leave_time) b.streams
   pub ascending : Rising (ids b.streams)

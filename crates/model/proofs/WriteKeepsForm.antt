@@ -187,13 +187,13 @@ module _ (ports clock leave_time p : ℕ) (here : p < ports) where
       cells = v.cells;
       no-other-cells = v.no-other-cells;
       is-held = e;
-      eight-results = v.eight-results;
+      eight_results = v.eight_results;
       results = v.results;
       no-other-results = v.no-other-results;
       idle = v.idle;
       stored = v.stored;
       one-declares = v.one-declares;
-      eight-sends = length_at p m x.sends ∙ v.eight-sends;
+      eight_sends = length_at p m x.sends ∙ v.eight_sends;
       sends = all_changed ValidSends p m x.sends w.good v.sends;
       sent = λ q h. at_each (λ y. sent_formed (result_at x q) y) p m (λ y. w.sent (result_at x q) y) x.sends q no_sends ∙ v.sent q h;
       no-other-sends = rw (drop-changed ports p m x.sends here) v.no-other-sends;
@@ -461,27 +461,27 @@ module _ (b : Bridge) (v : Valid b) (p place : ℕ) (here : p < length b.setting
     where
       go : Dec (p ≡ q) → ValidSender (declares_slot b.settings q) b.clock (sender_at (at p sender b.senders) q)
       go (yes e) =
-          rw (← e, at_here p sender b.senders no_sender (omega (arith, v.eight-senders, v.settings.eight-ports)))
+          rw (← e, at_here p sender b.senders no_sender (omega (arith, v.eight_senders, v.settings.eight_ports)))
           (sender-kept (declares_slot b.settings p) (sender_at b.senders p) (v.senders p here))
       go (no n) = rw (at_other p sender b.senders q no_sender n) (v.senders q h)
 
   few : length (drop_unheld (moved_streams f p b.streams)) ≤ 64
-  few = omega (arith, fewer-dropped (moved_streams f p b.streams), moved-count f p b.streams, v.at-most-64)
+  few = omega (arith, fewer-dropped (moved_streams f p b.streams), moved-count f p b.streams, v.at_most_64)
 
   moving-valid : Valid moving
   unfolding moving
   moving-valid = record {
     settings = v.settings;
     clock = v.clock;
-    eight-totals = v.eight-totals;
+    eight_totals = v.eight_totals;
     totals = rw (held-dropped (moved_streams f p b.streams), moved_holds f p b.streams) v.totals;
-    eight-owns = v.eight-owns;
+    eight_owns = v.eight_owns;
     owns = v.owns;
     no-other-owns = v.no-other-owns;
-    eight-senders = length_at p sender b.senders ∙ v.eight-senders;
+    eight_senders = length_at p sender b.senders ∙ v.eight_senders;
     senders = senders-kept;
     no-other-senders = rw (drop-changed (length b.settings.ports) p sender b.senders here) v.no-other-senders;
-    at-most-64 = few;
+    at_most_64 = few;
     streams =
         streams-kept (length b.settings.ports) b.clock b.settings.leave_time p here f (λ i r. write-stands all place (end_on b p place) i r)
         b.streams v.streams;

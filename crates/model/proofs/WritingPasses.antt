@@ -975,7 +975,7 @@ at-most-194 b v p here =
     let domains : List (Listed Declaration) = domain_values b.settings 0 (sender_at b.senders p).domains in
     omega (
       arith,
-      v.at-most-64,
+      v.at_most_64,
       kind-few advertises p s,
       kind-few faileds p s,
       kind-few listeners p s,

@@ -49,9 +49,9 @@ pub record FitStream (x : Stream) : Type 0 where
   pub rank : x.settled.rank < 2
   pub eight_cells : length x.cells ≡ 8
   pub cells : All FitCell x.cells
-  pub eight-results : length x.results ≡ 8
+  pub eight_results : length x.results ≡ 8
   pub results : All FitResult x.results
-  pub eight-sends : length x.sends ≡ 8
+  pub eight_sends : length x.sends ≡ 8
   pub sends : All FitSends x.sends
 
 -- StreamIDs rise, and addresses
@@ -61,7 +61,7 @@ Ascending (i ∷ l) = All (λ j. i < j) l × Ascending l
 
 -- the addresses of a port
 pub record FitAddresses (l : List Address) : Type 0 where
-  pub at-most-64 : length l ≤ most_addresses
+  pub at_most_64 : length l ≤ most_addresses
   pub each : All (λ a. Fit address_widths (address_numbers a)) l
   pub ascending : Ascending (macs l)
 
@@ -78,7 +78,7 @@ pub record FitSettings (st : Settings) : Type 0 where
   pub leave_time : st.leave_time < priority_b_unit
   pub vlan : st.vlan < pruning_unit
   pub fan_in : st.fan_in < 256
-  pub eight-ports : length st.ports ≤ 8
+  pub eight_ports : length st.ports ≤ 8
   pub ports : All (λ q. Fit port_widths (port_numbers q)) st.ports
 
 abbrev pub FitTotals : Totals → Type 0
@@ -87,13 +87,13 @@ FitTotals t = (t.total_a < 256 ^ width_of.total_a) × (t.total_b < 256 ^ width_o
 pub record FitBridge (b : Bridge) : Type 0 where
   pub settings : FitSettings b.settings
   pub clock : b.clock < 2 ^ 32
-  pub eight-totals : length b.totals ≡ 8
+  pub eight_totals : length b.totals ≡ 8
   pub totals : All FitTotals b.totals
-  pub eight-owns : length b.owns ≡ 8
+  pub eight_owns : length b.owns ≡ 8
   pub owns : All FitOwn b.owns
-  pub eight-senders : length b.senders ≡ 8
+  pub eight_senders : length b.senders ≡ 8
   pub senders : All FitSender b.senders
-  pub at-most-64 : length b.streams ≤ 64
+  pub at_most_64 : length b.streams ≤ 64
   pub streams : All FitStream b.streams
   pub ascending : Ascending (ids b.streams)
 

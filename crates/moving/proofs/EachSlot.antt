@@ -124,7 +124,7 @@ module _ (w : Span) where
       b-fits = laid-fits t₀ s.laid
 
       a-sender : p < length (decode t₀).senders
-      a-sender = omega (arith, b-fits.eight-senders, s.port)
+      a-sender = omega (arith, b-fits.eight_senders, s.port)
 
       pub none-moved-yet : t₀ ≡ encode (bridge_to 0)
       unfolding bridge_to slots_to sending sender_at
@@ -135,7 +135,7 @@ module _ (w : Span) where
       to-fits k =
           let f = sender-fits s in
           let one : FitSender (sender_to k) = record { slotted = to-length k m₀ ds sender.domains ∙ f.slotted; start = f.start } in
-          sending-fits (decode t₀) b-fits (set (decode t₀).senders p (sender_to k)) (length-set (decode t₀).senders p (sender_to k) ∙ b-fits.eight-senders)
+          sending-fits (decode t₀) b-fits (set (decode t₀).senders p (sender_to k)) (length-set (decode t₀).senders p (sender_to k) ∙ b-fits.eight_senders)
           (all_set FitSender (decode t₀).senders p (sender_to k) b-fits.senders one)
 
       module _ (t : List ℕ) (m : Met) (k : ℕ) (v : SlotsMoving t m k) where

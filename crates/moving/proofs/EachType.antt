@@ -171,7 +171,7 @@ module _ (w : Span) (j : Kind) (p : ℕ) where
       unfolding bridge_to
       to-bridge-fits k =
           let f = laid-fits t₀ l in
-          holding-fits (decode t₀) f (moved_to k m₀ before) (omega (arith, to-length k m₀ before, f.at-most-64)) (to-fit k m₀ before f.streams)
+          holding-fits (decode t₀) f (moved_to k m₀ before) (omega (arith, to-length k m₀ before, f.at_most_64)) (to-fit k m₀ before f.streams)
           (rw (to-ids k m₀ before) f.ascending)
 
       module _ (n : ℕ) (t : List ℕ) (m : Met) (k : ℕ) (v : MovingTo n t m k) where
@@ -191,7 +191,7 @@ module _ (w : Span) (j : Kind) (p : ℕ) where
         pub next-few : Few m₀ 128 → Few m 256
         next-few f =
             let few = met-few k m₀ before 128 f in
-            let h = (laid-fits t₀ l).at-most-64 in
+            let h = (laid-fits t₀ l).at_most_64 in
             record {
               count = omega (arith, few.count, ap (λ (r : Met). r.count) v.met, h, v.within, v.count);
               left = omega (arith, few.left, ap (λ (r : Met). r.left) v.met, h, v.within, v.count);

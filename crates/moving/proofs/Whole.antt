@@ -104,7 +104,7 @@ module _ (w : Span) (p : ℕ) {m : Met} {j : Kind} {t : List ℕ} {r : Met} {u :
       (k.table, k.met)
 
   pub then-few : Laid t → (n : ℕ) → Few m n → Few r (n + 64)
-  then-few l n g = rw k.met (kind-few w j p m (decode t).streams n g (laid-fits t l).at-most-64)
+  then-few l n g = rw k.met (kind-few w j p m (decode t).streams n g (laid-fits t l).at_most_64)
 
 module _ (w : Span) (p : ℕ) (t : List ℕ) (l : Laid t) {ma mf ml : Met} {t₁ t₂ t₃ : List ℕ}
     (ka : MovedKind w none_met advertises p t ma t₁) (kf : MovedKind w ma faileds p t₁ mf t₂) (kl : MovedKind w mf listeners p t₂ ml t₃) where
@@ -170,7 +170,7 @@ module _ (p : ℕ) (t : List ℕ) (l : Laid t) where
       let x = (decode t).streams in
       let y = apply now p (leave_all advertises) x in
       let z = apply now p (leave_all faileds) y in
-      omega (arith, ap length (own-leaving now p x), left-count now p listeners z, left-count now p faileds y, left-count now p advertises x, (laid-fits t l).at-most-64)
+      omega (arith, ap length (own-leaving now p x), left-count now p listeners z, left-count now p faileds y, left-count now p advertises x, (laid-fits t l).at_most_64)
 
   ran-all : run_on true p (own_leave_all true) t ≡ ran (applied now p (own_leave_all true) (registered_of (decode t)))
   unfolding run_on effects effect room own_leave_all

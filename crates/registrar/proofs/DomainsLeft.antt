@@ -57,7 +57,7 @@ module _ (p now : ℕ) where
       unfolding slots_left
       slots-fit =
           let w = laid-fits t₀ l in
-          owning-fits (decode t₀) w (at p (left_to i) (decode t₀).owns) (length_at p (left_to i) (decode t₀).owns ∙ w.eight-owns)
+          owning-fits (decode t₀) w (at p (left_to i) (decode t₀).owns) (length_at p (left_to i) (decode t₀).owns ∙ w.eight_owns)
           (all_changed FitOwn p (left_to i) (decode t₀).owns left-fits w.owns)
 
       pub slot-stands : p < 8 → i < slots → SlotIn t p i

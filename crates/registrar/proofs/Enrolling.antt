@@ -37,7 +37,7 @@ module _ (t : List ℕ) (l : Laid t) (i k : ℕ) where
   unfolding enrolled holding
   enrolled-there e =
       let r = room_at i k (decode t).streams e in
-      record { few = rw r (laid-fits t l).at-most-64; found = rw r e; table = rw r (laid-is t l) }
+      record { few = rw r (laid-fits t l).at_most_64; found = rw r e; table = rw r (laid-is t l) }
 
   module _ (e : found_at i 0 (ids (decode t).streams) ≡ Gap k) where
     more : length (enrolled i t) ≡ length (decode t).streams + 1

@@ -92,13 +92,13 @@ module _ (p : ℕ) (a : Act) (b : Bridge) (w : FitBridge b) (f : Fits a) where
   owns-after : (m : Bool) → Eight FitOwn (cond m (apply_own b.clock p a b.owns) b.owns)
   owns-after m =
       either (Eight FitOwn) m (apply_own b.clock p a b.owns) b.owns
-      (owns-length b.clock p a b.owns ∙ w.eight-owns, owns-fit b.clock w.clock p a f b.owns w.owns) (w.eight-owns, w.owns)
+      (owns-length b.clock p a b.owns ∙ w.eight_owns, owns-fit b.clock w.clock p a f b.owns w.owns) (w.eight_owns, w.owns)
 
   senders-after : (m : Bool) → Eight FitSender (cond m (at p (moves_sender b.clock a) b.senders) b.senders)
   senders-after m =
       let u = moves_sender b.clock a in
       either (Eight FitSender) m (at p u b.senders) b.senders
-      (length_at p u b.senders ∙ w.eight-senders, all_changed FitSender p u b.senders (sender-fits b.clock w.clock a) w.senders) (w.eight-senders, w.senders)
+      (length_at p u b.senders ∙ w.eight_senders, all_changed FitSender p u b.senders (sender-fits b.clock w.clock a) w.senders) (w.eight_senders, w.senders)
 
   pub effect-fits : (m : Bool) → ((c : Cell) → FitCell c → FitCell (does b.clock a c)) →
       length (effect m b.clock p a b.streams) ≤ 64 → FitBridge (keeping b (after m b.clock p a (registered_of b)))

@@ -58,7 +58,7 @@ module _ (p : ℕ) (pdu t : List ℕ) (l : Laid t) where
       go : (b : Bool) → leb (length (apply_all now p es x.streams)) 64 ≡ b → b ≡ true
       go true e = refl
       go false e =
-          let k = room-lacking now p es x (laid-fits t l).at-most-64 (leb-false _ 64 e) in
+          let k = room-lacking now p es x (laid-fits t l).at_most_64 (leb-false _ 64 e) in
           absurd (true≢false (w.answer ∙ ap went k.stops ∙ unfold went in refl))
 
   -- no room: what was made for the frame is dropped
@@ -68,7 +68,7 @@ module _ (p : ℕ) (pdu t : List ℕ) (l : Laid t) where
   received-not u v h w q = record { answer = sym (stops u w); table = q ∙ ap encode back ∙ sym (laid-is t l) }
     where
       lacking : Lacking now p es x
-      lacking = room-lacking now p es x (laid-fits t l).at-most-64 (leb-false _ 64 (unfold taken in stops u w))
+      lacking = room-lacking now p es x (laid-fits t l).at_most_64 (leb-false _ 64 (unfold taken in stops u w))
 
       left : left_by (run_on false p es t) ≡ streaming lacking.left x
       left = unfold run_on left_by in (ap left_by lacking.stops)

@@ -51,7 +51,7 @@ unfolding done
 all_left p k t u l e =
     let s = (decode t).streams in
     let d = left-all p (decode t).clock k s in
-    act-done true p (leave_all k) t tt u l tt (rw (d, length-map s (leaving p (decode t).clock k)) (laid-fits t l).at-most-64)
+    act-done true p (leave_all k) t tt u l tt (rw (d, length-map s (leaving p (decode t).clock k)) (laid-fits t l).at_most_64)
     (e ∙ ap (λ (r : List Stream). encode (holding (decode t) r)) (sym d))
 
 -- LeaveAll, to Applicants and the LeaveAll machine.
@@ -84,7 +84,7 @@ module _ (p : ℕ) (k : Kind) (t u : List ℕ) (l : Laid t) (e : u ≡ encode (h
       let now = (decode t).clock in
       let s = (decode t).streams in
       let d = heard_all p now k s in
-      let few : length (effect true now p (hear_all k) s) ≤ 64 = rw (d, length-map s (leave_heard p k)) (laid-fits t l).at-most-64 in
+      let few : length (effect true now p (hear_all k) s) ≤ 64 = rw (d, length-map s (leave_heard p k)) (laid-fits t l).at_most_64 in
       all_done p k t l few v
       (q ∙ ap (λ (b : Bridge). encode (with_sender p (hears_leave_all b.clock (λ ds. ds)) b)) (encoded-read heard_bridge bridge-fits u e)
       ∙ ap (λ (r : List Stream). encode (sending (holding (decode t) r) (at p (hears_leave_all now (λ ds. ds)) (decode t).senders))) (sym d))
@@ -124,7 +124,7 @@ module _ (p : ℕ) (t : List ℕ) (l : Laid t) (i : ℕ) (a : Act) (w : Single i
   unfolding done together
   as_many =
       let s = effect true now p a held in
-      rw (held-ids s, effect-ids true now p a held, w.joins-none, ← held-ids held) (laid-fits t l).at-most-64
+      rw (held-ids s, effect-ids true now p a held, w.joins-none, ← held-ids held) (laid-fits t l).at_most_64
 
   one-unheld : (n : ℕ) → found_at i 0 (ids (decode t).streams) ≡ Gap n → Walked true p (a ∷ []) t true t
   unfolding done effect apply holding

@@ -190,7 +190,7 @@ pub room-walked : (p : ℕ) (a : Act) (t : List ℕ) → Laid t → Fits a → (
 unfolding done whole after effect keeping holding owning sending
 room-walked p a t l f none =
     let e = none (decode t).streams in
-    whole-done false p a t t l f (rw e (laid-fits t l).at-most-64) (laid-is t l ∙ ap (λ (s : List Stream). encode (holding (decode t) s)) (sym e))
+    whole-done false p a t t l f (rw e (laid-fits t l).at_most_64) (laid-is t l ∙ ap (λ (s : List Stream). encode (holding (decode t) s)) (sym e))
 
 -- LeaveAll of a type, heard on every stream, and by the LeaveAll machine.
 pub all_done : (p : ℕ) (k : Kind) (t : List ℕ) → Laid t → length (done true p (hear_all k) t) ≤ 64 → (u : List ℕ)
@@ -240,7 +240,7 @@ module _ (p : ℕ) (d : DomainAct) (t : List ℕ) (l : Laid t) (f : FitsDomain d
 
   both-done : (u : List ℕ) → u ≡ encode (sending (owning (decode t) owned) sent) → Walked true p (of_domain d ∷ []) t true u
   unfolding done whole after effect apply reach apply_own keeping holding owning sending
-  both-done u e = whole-done true p (of_domain d) t u l f (laid-fits t l).at-most-64 e
+  both-done u e = whole-done true p (of_domain d) t u l f (laid-fits t l).at_most_64 e
 
   pub domain-done : Registers d → (u : List ℕ) → u ≡ encode (owning (decode t) owned) → Walked true p (of_domain d ∷ []) t true u
   unfolding owning sending

@@ -85,7 +85,7 @@ module _ (x : Stream) (w : FitStream x) where
 
   pub declared-all : sends_to (declared_at x) 8 x ≡ declare x
   unfolding change declare
-  declared-all = sends-done (declared_at x) x w.eight-sends
+  declared-all = sends-done (declared_at x) x w.eight_sends
 
 pub declare-fits : (x : Stream) → FitStream x → FitStream (declare x)
 declare-fits x w = subst FitStream (declared-all x w) (sends-fit (declared_at x) (declared-at-fits x w) 8 (omega arith) x w)
@@ -119,7 +119,7 @@ module _ {t₀ : List ℕ} {k : ℕ} (s : Stands t₀ k) (p : ℕ) (h : p < 8) w
     next : turn (to p x₀) ≡ to (p + 1) x₀
     unfolding change result_at
     next =
-        let n : p < length x₀.sends = omega (arith, (stream-fits s).eight-sends) in
+        let n : p < length x₀.sends = omega (arith, (stream-fits s).eight_sends) in
         unfold change in (sends-next (declared_at x₀) p x₀ n (declare_sends x₀.settled (result_at x₀ p)) refl)
 
     pub declares-next : (y : List ℕ)

@@ -99,7 +99,7 @@ module _ (st : Settings) (now : ℕ) where
 
   remaining-fits : (l : List Address) → FitAddresses l → FitAddresses (remain_addresses st now l)
   remaining-fits l f = record {
-    at-most-64 = le_trans (fewer-addresses st now l) f.at-most-64;
+    at_most_64 = le_trans (fewer-addresses st now l) f.at_most_64;
     each = those-remain (λ a. Fit address_widths (address_numbers a)) l f.each;
     ascending = addresses-ascend l f.ascending;
   }
@@ -119,7 +119,7 @@ module _ (st : Settings) (now : ℕ) (s : List ℕ) (l : LaidOwn s) (t : List �
   first_fits = expired-own-fits st now (to_own s) (laid-own-fits s l)
 
   pub first-laid : LaidOwn t × (length t ≡ own_size)
-  first-laid = (record { thing = first; fits = first_fits; is = e }, ap length e ∙ own-length first first_fits.slotted first_fits.addresses.at-most-64)
+  first-laid = (record { thing = first; fits = first_fits; is = e }, ap length e ∙ own-length first first_fits.slotted first_fits.addresses.at_most_64)
 
   pub both-expired : (u : List ℕ) → u ≡ own_octets (change_addresses (remain_addresses st now) (to_own t)) → u ≡ own_octets (expired_own st now (to_own s))
   both-expired u q = q ∙ ap (λ (o : Own). own_octets (change_addresses (remain_addresses st now) o)) (ap to_own e ∙ own-fit-back first first_fits)
@@ -154,7 +154,7 @@ module _ (st : Settings) (now : ℕ) (t : List ℕ) (p : ℕ) (s : PortIn t p) (
   here : own_at (decode t₁).owns p ≡ o
   here =
       ap (λ (b : Bridge). own_at b.owns p) read
-      ∙ unfold owning in get_or-set_same (decode t).owns p o no_own (omega (arith, s.port, (laid-fits t s.laid).eight-owns))
+      ∙ unfold owning in get_or-set_same (decode t).owns p o no_own (omega (arith, s.port, (laid-fits t s.laid).eight_owns))
 
   pub decided-octets : (decode t).settings ≡ st → (t₂ : List ℕ) → t₂ ≡ encode (with_own p (flagged_own (decode t₁).settings p (own_at (decode t₁).owns p)) (decode t₁))
       → t₂ ≡ encode (with_own p (decide_own st now (decode t).owns p) (decode t))
@@ -174,7 +174,7 @@ unfolding no_own macs
 no-own-fits = record {
   slotted = refl;
   domains = all_replicate FitDomain slots no_domain no-domain-fits;
-  addresses = record { at-most-64 = omega arith; each = tt; ascending = tt };
+  addresses = record { at_most_64 = omega arith; each = tt; ascending = tt };
 }
 
 module _ (st : Settings) (now : ℕ) (l : List Own) (a : All FitOwn l) where

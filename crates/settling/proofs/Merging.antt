@@ -164,9 +164,9 @@ merging-fits x w = record {
   rank = w.rank;
   eight_cells = w.eight_cells;
   cells = w.cells;
-  eight-results = length-tabulate 8 0 (merged_at x);
+  eight_results = length-tabulate 8 0 (merged_at x);
   results = all-tabulate FitResult 8 0 (merged_at x) (merged-at-fits x w);
-  eight-sends = w.eight-sends;
+  eight_sends = w.eight_sends;
   sends = w.sends;
 }
 
@@ -185,7 +185,7 @@ module _ (x : Stream) (w : FitStream x) where
   unfolding merging
   merging-nowhere e =
       ap (λ (r : List Result). record { id = x.id; settled = x.settled; cells = x.cells; results = r; sends = x.sends })
-      (eight-of x.results (merged_at x) w.eight-results (λ q b. unfold merged_at is_source result_at in rw e))
+      (eight-of x.results (merged_at x) w.eight_results (λ q b. unfold merged_at is_source result_at in rw e))
 
   module _ (t : ℕ) (h : t < 8) (e : (q : ℕ) → is_source (source_of x) q ≡ eqb t q) where
     abbrev r : Result
@@ -198,14 +198,14 @@ module _ (x : Stream) (w : FitStream x) where
         go : (v : Bool) → eqb t q ≡ v → get_or (set x.results t r) q unsettled ≡ cond v (declaring (merged_shown x) (result_at x q)) (result_at x q)
         go true f =
             let s = eqb-true t q f in
-            rw (← s) (get_or-set_same x.results t r unsettled (omega (arith, w.eight-results)))
+            rw (← s) (get_or-set_same x.results t r unsettled (omega (arith, w.eight_results)))
         go false f = get_or-set_other x.results t q r unsettled (λ g. eqb-false t q f (sym g)) ∙ (unfold result_at in refl)
 
     pub merging-at : merging x ≡ resulting (λ l. set l t r) x
     unfolding merging
     merging-at =
         ap (λ (r : List Result). record { id = x.id; settled = x.settled; cells = x.cells; results = r; sends = x.sends })
-        (eight-of (set x.results t r) (merged_at x) (length-set x.results t r ∙ w.eight-results) placed)
+        (eight-of (set x.results t r) (merged_at x) (length-set x.results t r ∙ w.eight_results) placed)
 
 -- What a stream is left as: without a Talker port as it was, else with the result there declaring the merged Listener.
 

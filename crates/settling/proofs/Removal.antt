@@ -35,9 +35,9 @@ module _ (st : Settings) (time : ℕ) where
     rank = w.rank;
     eight_cells = length-map x.cells (expire_cell st time) ∙ w.eight_cells;
     cells = cells_fit x.cells w.cells;
-    eight-results = w.eight-results;
+    eight_results = w.eight_results;
     results = w.results;
-    eight-sends = w.eight-sends;
+    eight_sends = w.eight_sends;
     sends = w.sends;
   }
 

@@ -50,7 +50,7 @@ module _ (t : List ℕ) (l : Laid t) (time : ℕ) (small : time < 2 ^ 32) (t₁ 
       b₃ = admissions (length b.settings.ports) 0 b₂
 
       w₃ : FitBridge b₃
-      w₃ = admissions-fit (length b.settings.ports) 0 b₂ (omega (arith, (laid-fits t l).settings.eight-ports)) w₂
+      w₃ = admissions-fit (length b.settings.ports) 0 b₂ (omega (arith, (laid-fits t l).settings.eight_ports)) w₂
 
       shared-is : t₃ ≡ encode b₃
       unfolding early_all holding owning
@@ -65,7 +65,7 @@ module _ (t : List ℕ) (l : Laid t) (time : ℕ) (small : time < 2 ^ 32) (t₁ 
       decided-octets t₄ e₄ =
           e₄
           ∙ ap (λ (d : Bridge). encode (merging-all d)) (ap decode shared-is ∙ bridge-read b₃ w₃)
-          ∙ ap encode (stages-decide time b (laid-fits t l).settings.eight-ports)
+          ∙ ap encode (stages-decide time b (laid-fits t l).settings.eight_ports)
 
 -- what is decided fits its fields
 pub deciding-fits : (b : Bridge) → FitBridge b → (time : ℕ) → time < 2 ^ 32 → FitBridge (deciding time b)
@@ -74,5 +74,5 @@ deciding-fits b w time small =
     let b₂ = early_all time (removed time b) in
     let n = length b.settings.ports in
     let w₂ : FitBridge b₂ = early-all-fits (removed time b) (removed-fits time small b w) time small in
-    let w₃ = admissions-fit n 0 b₂ (omega (arith, w.settings.eight-ports)) w₂ in
-    subst FitBridge (stages-decide time b w.settings.eight-ports) (map-fits (admissions n 0 b₂) w₃ merging merging-fits merging-id)
+    let w₃ = admissions-fit n 0 b₂ (omega (arith, w.settings.eight_ports)) w₂ in
+    subst FitBridge (stages-decide time b w.settings.eight_ports) (map-fits (admissions n 0 b₂) w₃ merging merging-fits merging-id)

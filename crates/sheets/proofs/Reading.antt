@@ -184,7 +184,7 @@ module _ {table₀ records text₀ table text : List ℕ} {at end from : ℕ} (c
   calling-end h =
       let none = records-none c.fuel (drop from records) (omega (arith, length-drop from records)) in
       let said : c.said ≡ records_text (records_of records) table₀ = sym (append-nil c.said) ∙ (rw none at c.text-left) in
-      record { table_is = rw none at c.table-left; text-is = rw (← said) c.put }
+      record { table_is = rw none at c.table-left; text_is = rw (← said) c.put }
 
   module _ (h : from < length records) where
     left : 0 < length (drop from records)
@@ -201,7 +201,7 @@ module _ {table₀ records text₀ table text : List ℕ} {at end from : ℕ} (c
         let is = only-stop (record_of (drop from records)) (sym d.size_is ∙ e) in
         let last : records_from c.fuel (drop from records) ≡ stop ∷ [] = ap (λ (f : ℕ). records_from f (drop from records)) some ∙ records-stop (c.fuel - 1) (drop from records) left is in
         let text : c.said ++ stop_line ≡ records_text (records_of records) table₀ = ap (λ (l : List ℕ). c.said ++ l) (sym (append-nil stop_line)) ∙ (rw last at c.text-left) in
-        record { table_is = d.table_is ∙ rw is (rw last at c.table-left); text-is = rw (← text) (put-append c.put p) }
+        record { table_is = d.table_is ∙ rw is (rw last at c.table-left); text_is = rw (← text) (put-append c.put p) }
 
     -- a record, and its line
     pub calling-more : {table' text' : List ℕ} {number size end' : ℕ} → Called table (record_of (drop from records)) (length (drop from records)) number size table'

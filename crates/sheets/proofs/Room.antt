@@ -165,4 +165,4 @@ module _ (table input : List ℕ) (octets : (i : ℕ) → get_or input i 0 < 256
   -- what is put in front of such a text is the sheet, whole
   pub sheet-whole : {text table_exit text_exit : List ℕ} {end : ℕ} → Printed table input text end table_exit text_exit → text_octets ≤ length text
       → take end text_exit ≡ sheet_text table input
-  sheet-whole p room = put_whole p.text-is (omega (arith, sheet-short))
+  sheet-whole p room = put_whole p.text_is (omega (arith, sheet-short))

@@ -27,7 +27,7 @@ module _ (table input after : List ℕ) (n number : ℕ) (e : n ≡ settings_len
   unfolding sheet_table sheet_text left_by printed started_by pick
   sheet-refused h p =
       let no : eqb (started_by table input).number 0 ≡ false = ne_eqb _ _ (λ z. h (begun.0 ∙ z)) in
-      record { table_is = rw no begun.1; text-is = rw no p }
+      record { table_is = rw no begun.1; text_is = rw no p }
 
   pub sheet-accepted : {text called text_exit table_exit : List ℕ} {a end ports : ℕ} → number ≡ 0 → ports ≡ ports_field input
       → CalledAll after (take (length input - n) (drop n input)) text 0 a table_exit called → Put called a (report_lines table_exit ports) end text_exit
@@ -38,5 +38,5 @@ module _ (table input after : List ℕ) (n number : ℕ) (e : n ≡ settings_len
       let all = rw (rest-whole input n, e, begun.1) at c in
       record {
         table_is = rw yes all.table_is;
-        text-is = rw (yes, ← all.table_is, ← same) (put-append all.text-is p);
+        text_is = rw (yes, ← all.table_is, ← same) (put-append all.text_is p);
       }

@@ -14,9 +14,9 @@ pub record Called (table : List ℕ) (r : Record) (left number size : ℕ) (afte
 -- the calls of all records: the table afterwards, and the text put for them
 pub record CalledAll (table records text : List ℕ) (at end : ℕ) (table_exit text_exit : List ℕ) : Type 0 where
   pub table_is : table_exit ≡ table_after (records_of records) table
-  pub text-is : Put text at (records_text (records_of records) table) end text_exit
+  pub text_is : Put text at (records_text (records_of records) table) end text_exit
 
 -- the sheet of an input: the table afterwards, and the text put in front
 pub record Printed (table input text : List ℕ) (end : ℕ) (table_exit text_exit : List ℕ) : Type 0 where
   pub table_is : table_exit ≡ sheet_table table input
-  pub text-is : Put text 0 (sheet_text table input) end text_exit
+  pub text_is : Put text 0 (sheet_text table input) end text_exit

@@ -177,9 +177,9 @@ module _ {t : List ℕ} {k : ℕ} (s : Stands t k) where
           rank = w.rank;
           eight_cells = x.eight_cells;
           cells = x.cells;
-          eight-results = x.eight-results;
+          eight_results = x.eight_results;
           results = x.results;
-          eight-sends = x.eight-sends;
+          eight_sends = x.eight_sends;
           sends = x.sends;
         }
 
@@ -304,7 +304,7 @@ module _ {t : List ℕ} {p : ℕ} (s : PortIn t p) where
 
   pub totals-there : ReadsTotals (part (total_place p) total_size t) (totals_at p (decode t))
   totals-there =
-      reads-totals (totals_at p (decode t)) (all-at FitTotals (decode t).totals b-fits.totals p no_totals (omega (arith, b-fits.eight-totals)))
+      reads-totals (totals_at p (decode t)) (all-at FitTotals (decode t).totals b-fits.totals p no_totals (omega (arith, b-fits.eight_totals)))
       (part (total_place p) total_size t)
       (ap (part (total_place p) total_size) (laid-is t s.laid) ∙ totals-part (decode t) b-fits p (total_place p) s.port refl)
 

@@ -208,7 +208,7 @@ module _ (b : Bridge) (w : FitBridge b) (t : List ℕ) (i j : ℕ) (c : Closing 
       let d : drop i b.streams ≡ [] = ap (λ (l : ℕ). drop l b.streams) e ∙ drop-length b.streams in
       let q : j ≡ length s = c.count ∙ ap length k in
       let there : t ≡ front ++ (c.between ++ unused n) = c.is ∙ rw (d, a) in
-      let o : m + (64 - n) * record_size ≡ (64 - length s) * record_size = omega (arith, q, c.fewer, w.at-most-64) in
+      let o : m + (64 - n) * record_size ≡ (64 - length s) * record_size = omega (arith, q, c.fewer, w.at_most_64) in
       let z : zeros m ++ unused n ≡ unused (length s) = sym (zeros-add m ((64 - n) * record_size)) ∙ ap zeros o in
       let cleared : patch (record_place j) m (zeros m) t ≡ header b ++ (flat stream_octets s ++ unused (length s)) =
       ap (patch (record_place j) m (zeros m)) there

@@ -81,7 +81,7 @@ module _ (f : ℕ → Own) where
 
     pub all_own : (t : List ℕ) → t ≡ encode (owns_to t₀ 8) → t ≡ encode (owning (decode t₀) (tabulate 8 0 f))
     unfolding owns_to
-    all_own t e = e ∙ ap (λ (o : List Own). encode (owning (decode t₀) o)) (up-to-eight f (decode t₀).owns (laid-fits t₀ l).eight-owns)
+    all_own t e = e ∙ ap (λ (o : List Own). encode (owning (decode t₀) o)) (up-to-eight f (decode t₀).owns (laid-fits t₀ l).eight_owns)
 
     module _ (fits : (q : ℕ) → FitOwn (f q)) (n : ℕ) (h : n < 8) (t : List ℕ) (e : t ≡ encode (owns_to t₀ n)) where
       w : FitBridge (decode t₀)
@@ -91,7 +91,7 @@ module _ (f : ℕ → Own) where
       unfolding owns_to
       owns-fit =
           let o = (decode t₀).owns in
-          owning-fits (decode t₀) w (up_to f o n) (up-to-length f o n (omega (arith, w.eight-owns)) ∙ w.eight-owns) (up-to-keep f o FitOwn fits w.owns n)
+          owning-fits (decode t₀) w (up_to f o n) (up-to-length f o n (omega (arith, w.eight_owns)) ∙ w.eight_owns) (up-to-keep f o FitOwn fits w.owns n)
 
       pub own-next-in : PortIn t n
       own-next-in = record { laid = encoded-laid (owns_to t₀ n) owns-fit t e; port = h }
@@ -110,7 +110,7 @@ module _ (f : ℕ → Own) where
       one-own-more y q =
           q
           ∙ ap (λ (b : Bridge). encode (with_own n (f n) b)) owns-read
-          ∙ unfold owns_to owning in rw (add-one n) (ap (λ (o : List Own). encode (owning (decode t₀) o)) (up-to-next f (decode t₀).owns n no_own (omega (arith, w.eight-owns))))
+          ∙ unfold owns_to owning in rw (add-one n) (ap (λ (o : List Own). encode (owning (decode t₀) o)) (up-to-next f (decode t₀).owns n no_own (omega (arith, w.eight_owns))))
 
 -- What one port after another sends by itself.
 
@@ -127,7 +127,7 @@ module _ (f : ℕ → Sender) where
     pub all-senders : (t : List ℕ) → t ≡ encode (senders_to t₀ 8) → t ≡ encode (sending (decode t₀) (tabulate 8 0 f))
     unfolding senders_to
     all-senders t e =
-        e ∙ ap (λ (o : List Sender). encode (sending (decode t₀) o)) (up-to-eight f (decode t₀).senders (laid-fits t₀ l).eight-senders)
+        e ∙ ap (λ (o : List Sender). encode (sending (decode t₀) o)) (up-to-eight f (decode t₀).senders (laid-fits t₀ l).eight_senders)
 
     module _ (fits : (q : ℕ) → FitSender (f q)) (n : ℕ) (h : n < 8) (t : List ℕ) (e : t ≡ encode (senders_to t₀ n)) where
       s-fits : FitBridge (decode t₀)
@@ -137,7 +137,7 @@ module _ (f : ℕ → Sender) where
       unfolding senders_to
       senders-fit =
           let o = (decode t₀).senders in
-          sending-fits (decode t₀) s-fits (up_to f o n) (up-to-length f o n (omega (arith, s-fits.eight-senders)) ∙ s-fits.eight-senders)
+          sending-fits (decode t₀) s-fits (up_to f o n) (up-to-length f o n (omega (arith, s-fits.eight_senders)) ∙ s-fits.eight_senders)
           (up-to-keep f o FitSender fits s-fits.senders n)
 
       pub sender-next-in : PortIn t n
@@ -163,7 +163,7 @@ module _ (f : ℕ → Sender) where
           q
           ∙ ap (λ (b : Bridge). encode (with_sender n u b)) senders-read
           ∙ unfold senders_to sending in rw (add-one n)
-          (ap (λ (o : List Sender). encode (sending (decode t₀) o)) (up-to-changed f (decode t₀).senders n no_sender (omega (arith, s-fits.eight-senders)) u d))
+          (ap (λ (o : List Sender). encode (sending (decode t₀) o)) (up-to-changed f (decode t₀).senders n no_sender (omega (arith, s-fits.eight_senders)) u d))
 
 -- What one port after another sends of a stream.
 
@@ -192,8 +192,8 @@ module _ (f : ℕ → Sends) where
     rank = w.rank;
     eight_cells = w.eight_cells;
     cells = w.cells;
-    eight-results = w.eight-results;
+    eight_results = w.eight_results;
     results = w.results;
-    eight-sends = up-to-length f x.sends n (omega (arith, w.eight-sends)) ∙ w.eight-sends;
+    eight_sends = up-to-length f x.sends n (omega (arith, w.eight_sends)) ∙ w.eight_sends;
     sends = up-to-keep f x.sends FitSends fits w.sends n;
   }

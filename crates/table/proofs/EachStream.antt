@@ -109,7 +109,7 @@ module _ (g : Stream → Stream) where
       partly-fits =
           let w = laid-fits t₀ l in
           let s = (decode t₀).streams in
-          holding-fits (decode t₀) w (firsts g k s) (omega (arith, firsts-length g k s, w.at-most-64)) (firsts-keep g FitStream keeps k s w.streams)
+          holding-fits (decode t₀) w (firsts g k s) (omega (arith, firsts-length g k s, w.at_most_64)) (firsts-keep g FitStream keeps k s w.streams)
           (rw (firsts-ids k s) w.ascending)
 
       pub partly-laid : Laid t
@@ -209,8 +209,8 @@ module _ (u : Cell → Cell) where
     rank = w.rank;
     eight_cells = firsts-length u p x.cells ∙ w.eight_cells;
     cells = firsts-keep u FitCell keeps p x.cells w.cells;
-    eight-results = w.eight-results;
+    eight_results = w.eight_results;
     results = w.results;
-    eight-sends = w.eight-sends;
+    eight_sends = w.eight_sends;
     sends = w.sends;
   }

@@ -34,9 +34,9 @@ changed-fits p u k x w = record {
   rank = w.rank;
   eight_cells = length_at p u x.cells ∙ w.eight_cells;
   cells = all_changed FitCell p u x.cells k w.cells;
-  eight-results = w.eight-results;
+  eight_results = w.eight_results;
   results = w.results;
-  eight-sends = w.eight-sends;
+  eight_sends = w.eight_sends;
   sends = w.sends;
 }
 
@@ -50,9 +50,9 @@ changed-sends-fit p u k x w = record {
   rank = w.rank;
   eight_cells = w.eight_cells;
   cells = w.cells;
-  eight-results = w.eight-results;
+  eight_results = w.eight_results;
   results = w.results;
-  eight-sends = length_at p u x.sends ∙ w.eight-sends;
+  eight_sends = length_at p u x.sends ∙ w.eight_sends;
   sends = all_changed FitSends p u x.sends k w.sends;
 }
 
@@ -64,9 +64,9 @@ set-result-fits p r f x w = record {
   rank = w.rank;
   eight_cells = w.eight_cells;
   cells = w.cells;
-  eight-results = length-set x.results p r ∙ w.eight-results;
+  eight_results = length-set x.results p r ∙ w.eight_results;
   results = all_set FitResult x.results p r w.results f;
-  eight-sends = w.eight-sends;
+  eight_sends = w.eight_sends;
   sends = w.sends;
 }
 
@@ -91,9 +91,9 @@ fresh-fits id h = record {
   rank = omega arith;
   eight_cells = refl;
   cells = all_replicate FitCell 8 empty empty-fits;
-  eight-results = refl;
+  eight_results = refl;
   results = all_replicate FitResult 8 unsettled unsettled-fits;
-  eight-sends = refl;
+  eight_sends = refl;
   sends = all_replicate FitSends 8 no_sends no-sends-fit;
 }
 
@@ -104,13 +104,13 @@ unfolding holding
 holding-fits b w s few all rise = record {
   settings = w.settings;
   clock = w.clock;
-  eight-totals = w.eight-totals;
+  eight_totals = w.eight_totals;
   totals = w.totals;
-  eight-owns = w.eight-owns;
+  eight_owns = w.eight_owns;
   owns = w.owns;
-  eight-senders = w.eight-senders;
+  eight_senders = w.eight_senders;
   senders = w.senders;
-  at-most-64 = few;
+  at_most_64 = few;
   streams = all;
   ascending = rise;
 }
@@ -125,7 +125,7 @@ ids_set (x ∷ s) (suc k) d y e = ap (λ (l : List ℕ). x.id ∷ l) (ids_set s 
 pub set-fits : (b : Bridge) → FitBridge b → (k : ℕ) (y : Stream) → FitStream y → y.id ≡ (get_or b.streams k (fresh 0)).id
     → FitBridge (holding b (set b.streams k y))
 set-fits b w k y f e =
-    holding-fits b w (set b.streams k y) (omega (arith, length-set b.streams k y, w.at-most-64)) (all_set FitStream b.streams k y w.streams f)
+    holding-fits b w (set b.streams k y) (omega (arith, length-set b.streams k y, w.at_most_64)) (all_set FitStream b.streams k y w.streams f)
     (subst Ascending (sym (ids_set b.streams k (fresh 0) y e)) w.ascending)
 
 -- each changed, its StreamID kept
@@ -141,7 +141,7 @@ all-mapped g keeps (x ∷ s) a = (keeps x a.0, all-mapped g keeps s a.1)
 pub map-fits : (b : Bridge) → FitBridge b → (g : Stream → Stream) → ((x : Stream) → FitStream x → FitStream (g x)) → ((x : Stream) → (g x).id ≡ x.id)
     → FitBridge (holding b (map g b.streams))
 map-fits b w g keeps same =
-    holding-fits b w (map g b.streams) (omega (arith, length-map b.streams g, w.at-most-64)) (all-mapped g keeps b.streams w.streams)
+    holding-fits b w (map g b.streams) (omega (arith, length-map b.streams g, w.at_most_64)) (all-mapped g keeps b.streams w.streams)
     (subst Ascending (sym (ids-map g same b.streams)) w.ascending)
 
 -- one put in, where it is missing
@@ -165,7 +165,7 @@ inserted-fits b w k id f h few =
 pub held_fits : (b : Bridge) → FitBridge b → FitBridge (holding b (drop_unheld b.streams))
 held_fits b w =
     let s = b.streams in
-    holding-fits b w (drop_unheld s) (omega (arith, fewer-dropped s, w.at-most-64)) (all-dropped FitStream FitStream (λ x h f. f) s w.streams)
+    holding-fits b w (drop_unheld s) (omega (arith, fewer-dropped s, w.at_most_64)) (all-dropped FitStream FitStream (λ x h f. f) s w.streams)
     (rising-ascends (ids (drop_unheld s)) (dropped-rising s (ascending-rises (ids s) w.ascending)))
 
 -- Clock and totals.
@@ -174,13 +174,13 @@ pub clocked-fits : (b : Bridge) → FitBridge b → (now : ℕ) → now < 2 ^ 32
 clocked-fits b w now h = record {
   settings = w.settings;
   clock = h;
-  eight-totals = w.eight-totals;
+  eight_totals = w.eight_totals;
   totals = w.totals;
-  eight-owns = w.eight-owns;
+  eight_owns = w.eight_owns;
   owns = w.owns;
-  eight-senders = w.eight-senders;
+  eight_senders = w.eight_senders;
   senders = w.senders;
-  at-most-64 = w.at-most-64;
+  at_most_64 = w.at_most_64;
   streams = w.streams;
   ascending = w.ascending;
 }
@@ -189,13 +189,13 @@ pub totalled-fits : (b : Bridge) → FitBridge b → (ts : List Totals) → leng
 totalled-fits b w ts e f = record {
   settings = w.settings;
   clock = w.clock;
-  eight-totals = e;
+  eight_totals = e;
   totals = f;
-  eight-owns = w.eight-owns;
+  eight_owns = w.eight_owns;
   owns = w.owns;
-  eight-senders = w.eight-senders;
+  eight_senders = w.eight_senders;
   senders = w.senders;
-  at-most-64 = w.at-most-64;
+  at_most_64 = w.at_most_64;
   streams = w.streams;
   ascending = w.ascending;
 }
@@ -205,13 +205,13 @@ unfolding owning
 owning-fits b w o e f = record {
   settings = w.settings;
   clock = w.clock;
-  eight-totals = w.eight-totals;
+  eight_totals = w.eight_totals;
   totals = w.totals;
-  eight-owns = e;
+  eight_owns = e;
   owns = f;
-  eight-senders = w.eight-senders;
+  eight_senders = w.eight_senders;
   senders = w.senders;
-  at-most-64 = w.at-most-64;
+  at_most_64 = w.at_most_64;
   streams = w.streams;
   ascending = w.ascending;
 }
@@ -221,13 +221,13 @@ unfolding sending
 sending-fits b w l e f = record {
   settings = w.settings;
   clock = w.clock;
-  eight-totals = w.eight-totals;
+  eight_totals = w.eight_totals;
   totals = w.totals;
-  eight-owns = w.eight-owns;
+  eight_owns = w.eight_owns;
   owns = w.owns;
-  eight-senders = e;
+  eight_senders = e;
   senders = f;
-  at-most-64 = w.at-most-64;
+  at_most_64 = w.at_most_64;
   streams = w.streams;
   ascending = w.ascending;
 }

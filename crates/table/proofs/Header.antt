@@ -153,7 +153,7 @@ module _ (b : Bridge) (w : FitBridge b) (p a : ℕ) (h : p < 8) (e : a ≡ port_
       let st = b.settings in
       let l = eight_ports st in
       let after = clock_and_count b ++ (totals_whole b ++ behind_totals b) in
-      let few : p < length l = omega (arith, length-eight st w.settings.eight-ports) in
+      let few : p < length l = omega (arith, length-eight st w.settings.eight_ports) in
       ap (part a port_size) (ports-laid b)
       ∙ part-one port_size port_octets in_table.ports (head st) after (head-length st) l (ports-sized l) p a few e no_port
       ∙ ap port_octets (padded-at st.ports (8 - length st.ports) p no_port)
@@ -168,7 +168,7 @@ before-totals b w = length-append (settings_whole b) (clock_and_count b) ∙ ome
 
 module _ (b : Bridge) (w : FitBridge b) (p a : ℕ) (h : p < 8) (e : a ≡ total_place p) where
   a-total : p < length b.totals
-  a-total = omega (arith, w.eight-totals)
+  a-total = omega (arith, w.eight_totals)
 
   pub totals-part : part a total_size (encode b) ≡ totals_octets (get_or b.totals p no_totals)
   totals-part =
@@ -209,7 +209,7 @@ module _ (b : Bridge) (w : FitBridge b) (p : ℕ) (h : p < 8) where
   before = settings_whole b ++ (clock_and_count b ++ totals_whole b)
 
   an-own : p < length b.owns
-  an-own = omega (arith, w.eight-owns)
+  an-own = omega (arith, w.eight_owns)
 
   pub own-part : part (own_place p) own_size (encode b) ≡ own_octets (own_at b.owns p)
   unfolding before
@@ -239,7 +239,7 @@ before-senders b w =
 
 module _ (b : Bridge) (w : FitBridge b) (p : ℕ) (h : p < 8) where
   a-sender : p < length b.senders
-  a-sender = omega (arith, w.eight-senders)
+  a-sender = omega (arith, w.eight_senders)
 
   pub sender-part : part (sender_place p) sender_size (encode b) ≡ sender_octets (sender_at b.senders p)
   unfolding sender_at
@@ -295,7 +295,7 @@ module _ (t : List ℕ) (l : Laid t) where
   laid-count = ap (λ (s : List ℕ). get_or s in_table.count 0) (laid-is t l) ∙ count_at (decode t) (laid-fits t l)
 
   pub laid-few : length (decode t).streams ≤ 64
-  laid-few = (laid-fits t l).at-most-64
+  laid-few = (laid-fits t l).at_most_64
 
   pub laid-bridge-id : be_at 8 t 0 ≡ (decode t).settings.bridge_id
   laid-bridge-id = ap (λ (s : List ℕ). be_at 8 s 0) (laid-is t l) ∙ bridge-id-at (decode t) (laid-fits t l)
@@ -319,7 +319,7 @@ module _ (t : List ℕ) (l : Laid t) where
   laid-ports = ap (λ (s : List ℕ). be_at 3 s in_head.word / ports_unit) (laid-is t l) ∙ ports-at (decode t) (laid-fits t l)
 
   pub laid-eight : length (decode t).settings.ports ≤ 8
-  laid-eight = (laid-fits t l).settings.eight-ports
+  laid-eight = (laid-fits t l).settings.eight_ports
 
   pub laid-leave-time : be_at 3 t in_head.word % priority_b_unit ≡ (decode t).settings.leave_time
   laid-leave-time = ap (λ (s : List ℕ). be_at 3 s in_head.word % priority_b_unit) (laid-is t l) ∙ leave-time-at (decode t) (laid-fits t l)

@@ -39,7 +39,7 @@ module _ (s : List ℕ) (l : LaidOwn s) where
 
 pub reads-own : (o : Own) → FitOwn o → (s : List ℕ) → s ≡ own_octets o → ReadsOwn s o
 reads-own o f s e = record {
-  size = ap length e ∙ own-length o f.slotted f.addresses.at-most-64;
+  size = ap length e ∙ own-length o f.slotted f.addresses.at_most_64;
   laid = record { thing = o; fits = f; is = e };
   is = ap to_own e ∙ own-fit-back o f;
 }
@@ -92,7 +92,7 @@ module _ {t : List ℕ} {p : ℕ} (s : PortIn t p) where
   b-fits = laid-fits t s.laid
 
   an-own : p < length (decode t).owns
-  an-own = omega (arith, b-fits.eight-owns, s.port)
+  an-own = omega (arith, b-fits.eight_owns, s.port)
 
   pub own-fits : FitOwn (own_at (decode t).owns p)
   own-fits = all-at FitOwn (decode t).owns b-fits.owns p no_own an-own
@@ -109,7 +109,7 @@ module _ {t : List ℕ} {p : ℕ} (s : PortIn t p) where
 
     pub with-own-fits : FitOwn o → FitBridge (with_own p o (decode t))
     with-own-fits f =
-        owning-fits (decode t) b-fits (set (decode t).owns p o) (length-set (decode t).owns p o ∙ b-fits.eight-owns)
+        owning-fits (decode t) b-fits (set (decode t).owns p o) (length-set (decode t).owns p o ∙ b-fits.eight_owns)
         (all_set FitOwn (decode t).owns p o b-fits.owns f)
 
     pub own-replaced-laid : FitOwn o → (v : List ℕ) → v ≡ encode (with_own p o (decode t)) → Laid v

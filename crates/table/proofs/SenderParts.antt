@@ -35,7 +35,7 @@ module _ {t : List ℕ} {p : ℕ} (s : PortIn t p) where
   b-fits = laid-fits t s.laid
 
   a-sender : p < length (decode t).senders
-  a-sender = omega (arith, b-fits.eight-senders, s.port)
+  a-sender = omega (arith, b-fits.eight_senders, s.port)
 
   pub sender-fits : FitSender (sender_at (decode t).senders p)
   unfolding sender_at
@@ -55,7 +55,7 @@ module _ {t : List ℕ} {p : ℕ} (s : PortIn t p) where
     module _ (keeps : (x : Sender) → FitSender x → FitSender (u x)) where
       pub with-sender-fits : FitBridge (with_sender p u (decode t))
       with-sender-fits =
-          sending-fits (decode t) b-fits (at p u (decode t).senders) (length_at p u (decode t).senders ∙ b-fits.eight-senders)
+          sending-fits (decode t) b-fits (at p u (decode t).senders) (length_at p u (decode t).senders ∙ b-fits.eight_senders)
           (all_changed FitSender p u (decode t).senders keeps b-fits.senders)
 
       pub sender-replaced-laid : (v : List ℕ) → v ≡ encode (with_sender p u (decode t)) → Laid v

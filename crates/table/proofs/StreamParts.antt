@@ -96,7 +96,7 @@ unfolding stream_octets
 results-laid x = simp append_assoc
 
 eights : (x : Stream) → FitStream x → Eights x
-eights x w = record { cells = w.eight_cells; results = w.eight-results; sends = w.eight-sends }
+eights x w = record { cells = w.eight_cells; results = w.eight_results; sends = w.eight_sends }
 
 module _ (x : Stream) (w : FitStream x) where
   ahead-length : length (ahead x) ≡ in_record.results
@@ -104,7 +104,7 @@ module _ (x : Stream) (w : FitStream x) where
 
   module _ (p a : ℕ) (h : p < 8) (e : a ≡ result_in p) where
     a-result : p < length x.results
-    a-result = omega (arith, w.eight-results)
+    a-result = omega (arith, w.eight_results)
 
     pub result-part : part a result_size (stream_octets x) ≡ result_octets (result_at x p)
     unfolding result_at
@@ -134,7 +134,7 @@ module _ (x : Stream) (w : FitStream x) where
 
   module _ (p a : ℕ) (h : p < 8) (e : a ≡ sends_in p) where
     a-sends : p < length x.sends
-    a-sends = omega (arith, w.eight-sends)
+    a-sends = omega (arith, w.eight_sends)
 
     pub sends-part : part a sends_size (stream_octets x) ≡ sends_octets (sends_at x p)
     unfolding sends_at

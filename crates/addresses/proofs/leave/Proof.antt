@@ -30,7 +30,7 @@ there c = held_at _ _ _ (sym c.find.ensures ∙ c.in-At.is)
 few : (c : tie.In-At) → c.in-At.k < most_addresses
 few c =
     let first = c.before.before.before in
-    omega (arith, (there c).within, (laid-own-fits first.args.own.now first.requires.0).addresses.at-most-64)
+    omega (arith, (there c).within, (laid-own-fits first.args.own.now first.requires.0).addresses.at_most_64)
 
 quit-requires : tie.Need-quit-requires
 quit-requires c κs =

@@ -21,7 +21,7 @@ returns c =
     ≡ patch in_own.count 1 (be 1 (n.result - 1)) (patch (in_own.addresses + (n.result - 1) * address_size) address_size (zeros address_size)
     (patch (address_in a.k) ((n.result - 1 - a.k) * address_size) (part (address_in a.k + address_size) ((n.result - 1 - a.k) * address_size) a.own.now) a.own.now)) = cc in
     let f = laid-own-fits a.own.now p.laid in
-    all ∙ taken_out_lem (to_own a.own.now) f a.k p.held a.own.now (laid-own-is a.own.now p.laid) _ n.ensures.0 f.addresses.at-most-64
+    all ∙ taken_out_lem (to_own a.own.now) f a.k p.held a.own.now (laid-own-is a.own.now p.laid) _ n.ensures.0 f.addresses.at_most_64
 
 pub remove_spec : {M : Type 1} → statement M
 remove_spec =

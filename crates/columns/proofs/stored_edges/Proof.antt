@@ -8,7 +8,7 @@ use Rattle.columns.proofs.stored_edges.Tie as tie
 
 returns : tie.Need-returns
 unfolding to_own is_one
-returns c = rw (← c.own_at-own.ensures.is) record { in-a = refl; in_b = refl }
+returns c = rw (← c.own_at-own.ensures.is) record { in_a = refl; in_b = refl }
 
 pub stored_edges_spec : {M : Type 1} → statement M
 stored_edges_spec = tie.close (tie.spec (λ c κs. search rules) (λ c. search rules) (λ c. search rules) returns)

@@ -15,7 +15,7 @@ returns c =
       explains = call.ensures;
       number_is = refl;
       parts_are = rw c.letter.ensures;
-      buffer-is = refl;
+      buffer_is = refl;
     }
 
 pub srp_why_spec : {M : Type 1} → statement M
