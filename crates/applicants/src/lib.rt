@@ -109,7 +109,7 @@ pub fn heard_empty(state: u8) -> u8
     }
 }
 
-// r_lv!, r_la!.
+// rLv!, rLA!.
 pub fn heard_leave(state: u8) -> u8
     ensures { (result ≡ step false mrp.r_lv state) × (result ≡ step false mrp.r_la state) × (result ≤ 6) }
 {
@@ -149,7 +149,7 @@ pub fn written(state: u8, registered: bool) -> u8
     }
 }
 
-// tx_la!.
+// txLA!.
 pub fn written_leaving_all(state: u8) -> u8
     ensures { (result ≡ step false mrp.tx_la state) × (result ≤ 6) }
 {
@@ -164,7 +164,7 @@ pub fn written_leaving_all(state: u8) -> u8
     }
 }
 
-// tx_laf!.
+// txLAF!.
 pub fn left_out(state: u8) -> u8
     ensures { (result ≡ step false mrp.tx_laf state) × (result ≤ 6) }
 {
@@ -194,7 +194,7 @@ pub fn asks_now(state: u8) -> bool
     }
 }
 
-// The same at tx_la!.
+// The same at txLA!.
 pub fn asks_leaving_all(state: u8) -> bool
     ensures { result ≡ asks mrp.tx_la state }
 {
@@ -219,7 +219,7 @@ pub fn is_written(state: u8, all: bool) -> bool
     asks_now(state)
 }
 
-// s_j: JoinIn where the attribute is registered and not leaving, otherwise JoinMt.
+// sJ: JoinIn where the attribute is registered and not leaving, otherwise JoinMt.
 fn join_event(registered: bool) -> u8
     ensures { (result ≡ mrp.message_number registered mrp.s_j) × (result ≤ 5) }
 {
@@ -254,7 +254,7 @@ pub fn event_now(state: u8, registered: bool) -> u8
     }
 }
 
-// The event that tx_la! writes.
+// The event that txLA! writes.
 pub fn event_leaving_all(state: u8, registered: bool) -> u8
     ensures { (result ≡ event_at registered mrp.tx_la state) × (result ≤ 5) }
 {

@@ -48,7 +48,7 @@ unfolding tables every_event for_each
 every-step true = refl
 every-step false = refl
 
--- What is written, by number: 6 is nothing. At tx! of VP, AA Join, VN, AN New, QA Join in brackets, LA Lv; at tx_la! of VP In or Mt, VN and
+-- What is written, by number: 6 is nothing. At tx! of VP, AA Join, VN, AN New, QA Join in brackets, LA Lv; at txLA! of VP In or Mt, VN and
 -- AN New, AA and QA Join, LA In or Mt in brackets.
 pub every-message : (r : Bool)
     → (for_each (event_at r tx) ≡ cond r 2 4 ∷ cond r 1 3 ∷ 0 ∷ 0 ∷ cond r 1 3 ∷ cond r 1 3 ∷ 5 ∷ [])

@@ -154,7 +154,7 @@ module _ (own : ℕ → Bool) (h : Heard) where
   slot-heard-at i zero (a ∷ l) v = (slot-heard (own i) h a v.0, v.1)
   slot-heard-at i (suc j) (a ∷ l) v = (v.0, slot-heard-at (suc i) j l v.1)
 
--- r_la! starts the timer
+-- rLA! starts the timer
 timer-started : (now : ℕ) (m : LeaveAll) → ValidLeaveAll now (leave_all_next now r_la m)
 unfolding leave_all_next leave_all_entry leave_all_row leave_all_column starting
 timer-started now m = go m.state

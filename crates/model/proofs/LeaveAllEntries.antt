@@ -25,7 +25,7 @@ every-leave-all now m = go m.state
     go active = (refl, refl, refl, refl)
     go passive = (refl, refl, refl, refl)
 
--- s_la in Active alone
+-- sLA in Active alone
 pub sent-once : ((leave_all_entry tx active).sends ≡ true) × ((leave_all_entry tx passive).sends ≡ false)
 unfolding leave_alls
 sent-once = (refl, refl)

@@ -240,7 +240,7 @@ module _ {D : Type 0} where
       pub rest-said : flatten (runs (way false h) takes (length out) next list) ≡ out
       rest-said = says_all (way false h) takes t (still h) (length out) next list (rw out-said (omega arith)) ∙ out-said
 
-      -- the list after the pass: what was reached by tx_la!, what was not by tx_laf! and then tx!
+      -- the list after the pass: what was reached by txLA!, what was not by txLAF! and then tx!
       leave-all-list : pass_leaving_all ≡ each (after g tx_la) front ++ each (after h tx) out
       unfolding pass_leaving_all
       leave-all-list =

@@ -12,7 +12,7 @@ unfoldable pub registrars : Unit {0}
 unfolding registrar_next registrar_entry registrar_row registrar_column leaving_row joining_row registrar_to only registrar_of timed leaving_of registered_as
 registrars = tt
 
--- r_lv!, r_la! and tx_la! start leaving at the held clock, and what is leaving keeps its time
+-- rLv!, rLA! and txLA! start leaving at the held clock, and what is leaving keeps its time
 pub leaves : (now : ℕ) (l : Leaving)
     → (registrar_next now r_lv (held_with l) ≡ held_with (begin now l)) × (registrar_next now r_la (held_with l) ≡ held_with (begin now l))
     × (registrar_next now tx_la (held_with l) ≡ held_with (begin now l))

@@ -29,7 +29,7 @@ by m x = record { sends = m; next = x }
 unfoldable pub after_new : Bool → ApplicantState
 after_new registered = cond registered qa aa
 
--- The two entries that no source at hand confirms (docs/DECISIONS.md): VP and AN at tx_la!.
+-- The two entries that no source at hand confirms (docs/DECISIONS.md): VP and AN at txLA!.
 unfoldable pub passive_leaving_all : ApplicantEntry
 passive_leaving_all = by s aa
 
@@ -79,7 +79,7 @@ is_written s = true
 is_written s_l = true
 is_written (optional m) = false
 
--- the event's number (01: "New 0, JoinIn 1, In 2, JoinMt 3, Mt 4, Lv 5"): s_j is JoinIn where the Registrar is IN, otherwise JoinMt; s is
+-- the event's number (01: "New 0, JoinIn 1, In 2, JoinMt 3, Mt 4, Lv 5"): sJ is JoinIn where the Registrar is IN, otherwise JoinMt; s is
 -- In or Mt likewise. No event has the number of silence.
 unfoldable pub message_number : Bool → Message → ℕ
 message_number r silent = 6

@@ -328,7 +328,7 @@ listener_act vs n nothing_asked f = []
 listener_act vs n join f = hearing (id_value vs n) f
 listener_act vs n withdraw f = cond (eqb f 0) [] (leave listeners (id_value vs n) ∷ [])
 
--- what an Applicant of the same AttributeType and key hears (02, xiv): "In and Mt count now"; r_new! moves nothing
+-- what an Applicant of the same AttributeType and key hears (02, xiv): "In and Mt count now"; rNew! moves nothing
 unfoldable pub heard_of : Event → List Heard
 heard_of new = []
 heard_of join_in = heard_in ∷ []

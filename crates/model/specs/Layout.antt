@@ -17,8 +17,8 @@ before (suc i) (w ∷ ws) = w + before i ws
 abbrev pub width_of : record { bridge_id : ℕ; word : ℕ; vlan : ℕ; fan_in : ℕ; clock : ℕ; total_a : ℕ; total_b : ℕ; mac : ℕ; stream_id : ℕ }
 width_of = record { bridge_id = 8; word = 3; vlan = 2; fan_in = 1; clock = 4; total_a = 5; total_b = 6; mac = 6; stream_id = 8 }
 
--- settings: Bridge ID; one word of ports 4 bits, class priorities 3 and 3, leave time 14; talker_pruning 1 bit, with the VLAN of the
--- Domain values declared; msrp_max_fan_in_ports
+-- settings: Bridge ID; one word of ports 4 bits, class priorities 3 and 3, leave time 14; talkerPruning 1 bit, with the VLAN of the
+-- Domain values declared; msrpMaxFanInPorts
 abbrev pub head_widths : List ℕ
 head_widths = width_of.bridge_id ∷ width_of.word ∷ width_of.vlan ∷ width_of.fan_in ∷ []
 
@@ -208,8 +208,8 @@ record_size = name_size + cells_size + results_size + all_sends_size
 abbrev pub records_size : ℕ
 records_size = 64 * record_size
 
--- Places in the settings, behind the Bridge ID: the word of ports, class priorities and leave time; talker_pruning and the Domain
--- values' VLAN; msrp_max_fan_in_ports.
+-- Places in the settings, behind the Bridge ID: the word of ports, class priorities and leave time; talkerPruning and the Domain
+-- values' VLAN; msrpMaxFanInPorts.
 
 abbrev pub in_head : record { word : ℕ; vlan : ℕ; fan_in : ℕ }
 in_head = record { word = before 1 head_widths; vlan = before 2 head_widths; fan_in = before 3 head_widths }
@@ -430,7 +430,7 @@ address_index = record { registered = 0; leaves = 1; since = 2; mac = 3 }
 abbrev pub in_address : record { leaves : ℕ; mac : ℕ }
 in_address = record { leaves = before address_index.leaves address_widths; mac = before address_index.mac address_widths }
 
--- The unit of talker_pruning in its field, above the VLAN.
+-- The unit of talkerPruning in its field, above the VLAN.
 abbrev pub pruning_unit : ℕ
 pruning_unit = 2 ^ 15
 

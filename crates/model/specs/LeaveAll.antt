@@ -16,7 +16,7 @@ pub record LeaveAllEntry : Type 0 where
 unfoldable pub starting : LeaveAllState → LeaveAllEntry
 starting x = record { starts = true; sends = false; next = x }
 
--- s_la, Passive; and an inapplicable entry
+-- sLA, Passive; and an inapplicable entry
 unfoldable pub sends_leave_all : LeaveAllEntry
 sends_leave_all = record { starts = false; sends = true; next = passive }
 

@@ -76,7 +76,7 @@ module _ {D : Type 0} where
   unfoldable pub heard : Heard → Applicant D → Applicant D
   heard h a = moved (becomes false (heard_event h)) a
 
-  -- A write without LeaveAll, and one with it: "one that found no room" gets tx_laf!.
+  -- A write without LeaveAll, and one with it: "one that found no room" gets txLAF!.
   unfoldable pub way : Bool → (D → Bool) → Way (Listed D)
   way false registered = record { says = λ x. speaks tx x.state; inside = after registered tx; outside = itself }
   way true registered = record { says = λ x. speaks tx_la x.state; inside = after registered tx_la; outside = after registered tx_laf }

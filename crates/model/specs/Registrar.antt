@@ -27,7 +27,7 @@ registrar_to t i x = record { timer = t; indicates = i; next = x }
 unfoldable pub only : RegistrarState → RegistrarEntry
 only x = registrar_to goes_on unsaid x
 
--- the row of r_lv!, r_la!, tx_la! and Re-declare!: "if already leaving, the first time stays"
+-- the row of rLv!, rLA!, txLA! and Re-declare!: "if already leaving, the first time stays"
 unfoldable pub leaving_row : List RegistrarEntry
 leaving_row = registrar_to starts unsaid is_leaving ∷ only is_leaving ∷ only is_empty ∷ []
 

@@ -220,7 +220,7 @@ apply_owns now p [] o = o
 apply_owns now p (a ∷ es) o = apply_owns now p es (apply_own now p a o)
 
 -- What a port sends by itself: Applicants of Domain values by class ID and priority; and "any type's" LeaveAll "stops and restarts the
--- port's one LeaveAll machine" (r_la!).
+-- port's one LeaveAll machine" (rLA!).
 
 unfoldable pub hears_leave_all : ℕ → (List (Applicant (Unit {0})) → List (Applicant (Unit {0}))) → Sender → Sender
 hears_leave_all now u s = record { domains = u s.domains; leave_all = leave_all_next now r_la s.leave_all }

@@ -202,7 +202,7 @@ unfoldable pub inbounds_of : List Stream → List Inbound
 inbounds_of [] = []
 inbounds_of (x ∷ s) = add_inbound x.id (source_of x) (inbounds_of s)
 
--- Inbound ports (02, x; msrp_max_fan_in_ports): "such a port is one that is t for some stream"
+-- Inbound ports (02, x; msrpMaxFanInPorts): "such a port is one that is t for some stream"
 unfoldable pub is_inbound : List Inbound → ℕ → Bool
 is_inbound [] p = false
 is_inbound (i ∷ l) p = eqb i.origin.port p || is_inbound l p
@@ -306,7 +306,7 @@ outcome_column st s as_registered = failed_column (talker_type_of s)
 outcome_column st s as_advertise = advertise
 outcome_column st s (own_failure code) = failed st.bridge_id code
 
--- talker_pruning (35.2.4.3.1; 02, vi): "With pruning on, a port without the stream's destination gets column none"
+-- talkerPruning (35.2.4.3.1; 02, vi): "With pruning on, a port without the stream's destination gets column none"
 unfoldable pub is_pruned : Settings → Own → Fixed → Bool
 is_pruned st o f = st.pruning && not (holds_address f.destination o.addresses)
 

@@ -23,11 +23,11 @@ pub record Settings : Type 0 where
   pub priority_a : ℕ
   pub priority_b : ℕ
   pub leave_time : ℕ
-  -- "Add talker_pruning (35.2.4.3.1), the top bit of the VLAN setting's two octets" (02, vi)
+  -- "Add talkerPruning (35.2.4.3.1), the top bit of the VLAN setting's two octets" (02, vi)
   pub pruning : Bool
   -- of the Domain values that each port declares: "with a VLAN from a new setting of two octets after the leave time" (02, ii)
   pub vlan : ℕ
-  -- "Add msrp_max_fan_in_ports (0 means no limit; 1 to 8) as one octet of its own before the first port's settings" (02, x)
+  -- "Add msrpMaxFanInPorts (0 means no limit; 1 to 8) as one octet of its own before the first port's settings" (02, x)
   pub fan_in : ℕ
   pub ports : List Port
 

@@ -15,8 +15,8 @@ use Rattle.model.specs.Settling.{is_talking, is_hearing, is_advertise, held}
 use Rattle.model.specs.WrittenFrames.{fixed_numbers, fixed_from, to_ready}
 use Rattle.model.specs.Sending.{sends_octets, to_sends, sends_formed, sender_octets, to_sender, sender_formed}
 
--- Settings: Bridge ID; one field of ports 4 bits, class priorities 3 and 3, leave time 14; one of talker_pruning and the Domain
--- values' VLAN; msrp_max_fan_in_ports; then each port.
+-- Settings: Bridge ID; one field of ports 4 bits, class priorities 3 and 3, leave time 14; one of talkerPruning and the Domain
+-- values' VLAN; msrpMaxFanInPorts; then each port.
 
 unfoldable pub port_numbers : Port → List ℕ
 port_numbers q =
@@ -45,7 +45,7 @@ to_port s = port_from (fields port_widths 0 s)
 unfoldable pub head_word : Settings → ℕ
 head_word st = ((length st.ports * 8 + st.priority_a) * 8 + st.priority_b) * priority_b_unit + st.leave_time
 
--- talker_pruning is "the top bit of the VLAN setting's two octets"
+-- talkerPruning is "the top bit of the VLAN setting's two octets"
 unfoldable pub vlan_word : Settings → ℕ
 vlan_word st = bit st.pruning * pruning_unit + st.vlan
 
@@ -56,7 +56,7 @@ head_numbers st = st.bridge_id ∷ head_word st ∷ vlan_word st ∷ st.fan_in �
 unfoldable pub settings_octets : Settings → List ℕ
 settings_octets st = packed head_widths (head_numbers st) ++ flat port_octets st.ports
 
--- the field of ports, class priorities and leave time, and that of talker_pruning and VLAN
+-- the field of ports, class priorities and leave time, and that of talkerPruning and VLAN
 abbrev pub word_field : List ℕ → ℕ
 word_field s = be_at width_of.word s in_head.word
 
@@ -100,7 +100,7 @@ settings_rules s =
     ∷ []
 
 -- 11: settings as long as their head and their ports (01: "Length 11 + 22 x ports"; 02's settings are three octets more), and as laid
--- out; 02: "11 where the VLAN setting is 0 or 4,095, or one of the upper four bits is set", but for talker_pruning, "the top bit ..,
+-- out; 02: "11 where the VLAN setting is 0 or 4,095, or one of the upper four bits is set", but for talkerPruning, "the top bit ..,
 -- which 11 then allows"; "11 for a limit above 8"
 unfoldable pub settings_formed : List ℕ → Bool
 settings_formed s = eqb (length s) (port_place (ports_field s)) && all_true (settings_rules s)

@@ -34,7 +34,7 @@ end_on b p place =
     let l = drop place (declarations b p) in
     place + length (reached (port_way b p).says (takes_on b p (saying (port_way b p).says l)) l)
 
--- What a write does to the machine at place i of the list: tx! or tx_la! from its place up to that end, and elsewhere, with LeaveAll, tx_laf!.
+-- What a write does to the machine at place i of the list: tx! or txLA! from its place up to that end, and elsewhere, with LeaveAll, txLAF!.
 unfoldable pub moved_at : Bool → ℕ → ℕ → ℕ → Bool → Standing → List Standing
 moved_at all place end i registered q =
     cond (leb place i && ltb i end) (becomes registered (opportunity all) q) (cond all (becomes registered tx_laf q) (q ∷ []))
@@ -74,7 +74,7 @@ moved_sender f now all o i s = record {
   leave_all = cond all (timer.leave_all_next now timer.tx s.leave_all) s.leave_all;
 }
 
--- Registrar tx_la!: "Talkers, Listeners and Domain records of that port start leaving at the held clock", as by a LeaveAll of each type
+-- Registrar txLA!: "Talkers, Listeners and Domain records of that port start leaving at the held clock", as by a LeaveAll of each type
 unfoldable pub own_leave_all : Bool → List Act
 own_leave_all true = leave_all advertises ∷ leave_all faileds ∷ leave_all listeners ∷ of_domain leave_all_domains ∷ []
 own_leave_all false = []

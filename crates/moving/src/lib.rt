@@ -1,5 +1,5 @@
-// What a write does to the machines of its port (02, xiv): those that its PDU reaches get tx!, or with LeaveAll tx_la!, and all others
-// then tx_laf!; with LeaveAll the port's own registrations begin to leave; a stream that has neither a registration nor a machine goes.
+// What a write does to the machines of its port (02, xiv): those that its PDU reaches get tx!, or with LeaveAll txLA!, and all others
+// then txLAF!; with LeaveAll the port's own registrations begin to leave; a stream that has neither a registration nor a machine goes.
 #![tactic(auto)]
 
 ghost use Rattle.std.specs.Prelude.{◌≡◌, eqb, true, cond, not, ℕ, ◌+◌, ◌≤◌, ◌<◌, length};
@@ -33,7 +33,7 @@ pub struct Met {
     pub left: usize,
 }
 
-// An Applicant's octet after tx!, or with LeaveAll after tx_la!.
+// An Applicant's octet after tx!, or with LeaveAll after txLA!.
 fn after_opportunity(state: u8, registered: bool, all: bool) -> u8
     ensures { result ≡ step registered (opportunity all) state }
 {
@@ -43,7 +43,7 @@ fn after_opportunity(state: u8, registered: bool, all: bool) -> u8
     applicants::written(state, registered)
 }
 
-// Where the PDU does not reach it: tx_laf! with LeaveAll.
+// Where the PDU does not reach it: txLAF! with LeaveAll.
 fn after_others(state: u8, registered: bool, all: bool) -> u8
     ensures { result ≡ cond all (step registered tx_laf state) state }
 {
@@ -221,7 +221,7 @@ fn sent_all(sender: &mut [u8])
     octets::put(sender, LEAVE_ALL, 1, 0);
 }
 
-// Registrar tx_la!: Talkers, Listeners and Domain values of the port begin to leave.
+// Registrar txLA!: Talkers, Listeners and Domain values of the port begin to leave.
 fn leave_own(table: &mut [u8], p: usize)
     requires { PortIn table.old p }
     ensures { Walked true p (own_leave_all true) table.old true table.new }

@@ -104,7 +104,7 @@ register_acts kind first e four n =
 
 -- What the Applicant of its type and key hears.
 
--- "In and Mt count now"; r_new! moves nothing
+-- "In and Mt count now"; rNew! moves nothing
 unfoldable pub overheard_by : Event → Overheard
 overheard_by New = Unmoved
 overheard_by JoinIn = Hears heard.In

@@ -215,7 +215,7 @@ module _ {t : List ℕ} {k p : ℕ} (s : StandsOn t k p) where
     pub lent-cell-at : ReadsCell (take (a + cell_size - a) (drop a t)) (cell_at x p)
     lent-cell-at = rw (e, lent-part (cell_place k p) cell_size t) cell-at
 
-    -- by a call that ensures `now c.exit ≡ cell_octets (u (to_cell (now c.entry)))`
+    -- by a call that ensures `c.new ≡ cell_octets (u (to_cell c.old))`
     pub left-cell-at : (u : Cell → Cell) (y : List ℕ) → y ≡ cell_octets (u (to_cell (take (a + cell_size - a) (drop a t))))
         → take a t ++ (y ++ drop (a + cell_size - a) (drop a t)) ≡ encode (with_cell k p u (decode t))
     left-cell-at u y q =
@@ -248,7 +248,7 @@ module _ {t : List ℕ} {k p : ℕ} (s : StandsOn t k p) where
         → take a t ++ (y ++ drop (a + result_size - a) (drop a t)) ≡ encode (with_result k p r (decode t))
     left-result-at r y q = lent-patch a result_size y t ∙ rw (e, q) (result-replaced r)
 
-    -- by a call that ensures `now r.exit ≡ result_octets (u (to_result (now r.entry)))`
+    -- by a call that ensures `r.new ≡ result_octets (u (to_result r.old))`
     pub changed-result-at : (u : Result → Result) (y : List ℕ) → y ≡ result_octets (u (to_result (take (a + result_size - a) (drop a t))))
         → take a t ++ (y ++ drop (a + result_size - a) (drop a t)) ≡ encode (with_result k p (u (result_at (x s) p)) (decode t))
     changed-result-at u y q =
@@ -275,7 +275,7 @@ module _ {t : List ℕ} {k p : ℕ} (s : StandsOn t k p) where
     pub lent-sends-at : ReadsSends (take (a + sends_size - a) (drop a t)) (sends_at (x s) p)
     lent-sends-at = rw (e, lent-part (sends_place k p) sends_size t) sends-at
 
-    -- by a call that ensures `now y.exit ≡ sends_octets (u (to_sends (now y.entry)))`
+    -- by a call that ensures `y.new ≡ sends_octets (u (to_sends y.old))`
     pub left-sends-at : (u : Sends → Sends) (y : List ℕ) → y ≡ sends_octets (u (to_sends (take (a + sends_size - a) (drop a t))))
         → take a t ++ (y ++ drop (a + sends_size - a) (drop a t)) ≡ encode (with_sends k p u (decode t))
     left-sends-at u y q =

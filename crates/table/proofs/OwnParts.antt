@@ -119,7 +119,7 @@ module _ {t : List ℕ} {p : ℕ} (s : PortIn t p) where
     pub lent-own-at : ReadsOwn (take (a + own_size - a) (drop a t)) (own_at (decode t).owns p)
     lent-own-at = rw (e, lent-part (own_place p) own_size t) own-there
 
-    -- by a call that ensures `now o.exit ≡ own_octets (u (to_own (now o.entry)))`
+    -- by a call that ensures `o.new ≡ own_octets (u (to_own o.old))`
     pub left-own-at : (u : Own → Own) (y : List ℕ) → y ≡ own_octets (u (to_own (take (a + own_size - a) (drop a t))))
         → take a t ++ (y ++ drop (a + own_size - a) (drop a t)) ≡ encode (with_own p (u (own_at (decode t).owns p)) (decode t))
     left-own-at u y q =
@@ -173,7 +173,7 @@ module _ {t : List ℕ} {p i : ℕ} (s : SlotIn t p i) where
     pub lent-slot-at : ReadsDomain (take (a + slot_size - a) (drop a t)) (get_or own.domains i no_domain)
     lent-slot-at = rw (e, lent-part (slot_place p i) slot_size t) slot_at
 
-    -- by a call that ensures `now d.exit ≡ domain_octets (u (to_domain (now d.entry)))`
+    -- by a call that ensures `d.new ≡ domain_octets (u (to_domain d.old))`
     pub left-slot-at : (u : Domain → Domain) (y : List ℕ) → y ≡ domain_octets (u (to_domain (take (a + slot_size - a) (drop a t))))
         → take a t ++ (y ++ drop (a + slot_size - a) (drop a t)) ≡ encode (with_slot p i u (decode t))
     left-slot-at u y q =

@@ -65,7 +65,7 @@ module _ {t : List ℕ} {p : ℕ} (s : PortIn t p) where
     pub lent-sender-at : ReadsSender (take (a + sender_size - a) (drop a t)) (sender_at (decode t).senders p)
     lent-sender-at = rw (e, lent-part (sender_place p) sender_size t) sender-there
 
-    -- by a call that ensures `now x.exit ≡ sender_octets (u (to_sender (now x.entry)))`
+    -- by a call that ensures `x.new ≡ sender_octets (u (to_sender x.old))`
     pub left-sender-at : (u : Sender → Sender) (y : List ℕ) → y ≡ sender_octets (u (to_sender (take (a + sender_size - a) (drop a t))))
         → take a t ++ (y ++ drop (a + sender_size - a) (drop a t)) ≡ encode (with_sender p u (decode t))
     left-sender-at u y q =

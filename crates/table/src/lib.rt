@@ -76,8 +76,8 @@ pub const ALL_SENDS: usize = RESULTS + 8 * RESULT;
 
 pub const RECORD: usize = ALL_SENDS + 8 * SENDS;
 
-// A table: behind the Bridge ID the field of the number of ports, class priorities and leave time, talker_pruning with the VLAN of the
-// Domain values, msrp_max_fan_in_ports, the ports' settings, the clock, the number of streams, the totals, what the ports hold,
+// A table: behind the Bridge ID the field of the number of ports, class priorities and leave time, talkerPruning with the VLAN of the
+// Domain values, msrpMaxFanInPorts, the ports' settings, the clock, the number of streams, the totals, what the ports hold,
 // what they send and the records.
 pub const HEAD: usize = 8;
 
@@ -108,7 +108,7 @@ pub const PRIORITY_A_UNIT: u64 = 8 * PRIORITY_B_UNIT;
 
 pub const PORTS_UNIT: u64 = 8 * PRIORITY_A_UNIT;
 
-// The unit of talker_pruning, above the VLAN.
+// The unit of talkerPruning, above the VLAN.
 pub const PRUNING_UNIT: u64 = 32768;
 
 // The number of streams held.
@@ -174,7 +174,7 @@ pub fn domain_vlan(table: &[u8]) -> u64
     octets::get(table, VLAN, 2) % PRUNING_UNIT
 }
 
-// talker_pruning: whether Talkers go only where their destination is registered.
+// talkerPruning: whether Talkers go only where their destination is registered.
 pub fn pruning(table: &[u8]) -> bool
     requires { Laid table.now }
     ensures { result ≡ (decode table.now).settings.pruning }
@@ -182,7 +182,7 @@ pub fn pruning(table: &[u8]) -> bool
     octets::get(table, VLAN, 2) / PRUNING_UNIT == 1
 }
 
-// msrp_max_fan_in_ports: how many ports may bring streams in, or 0 for any number.
+// msrpMaxFanInPorts: how many ports may bring streams in, or 0 for any number.
 pub fn fan_in(table: &[u8]) -> u64
     requires { Laid table.now }
     ensures { result ≡ (decode table.now).settings.fan_in }
