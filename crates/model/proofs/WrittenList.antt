@@ -41,7 +41,7 @@ module _ {A : Type 0} where
       ∙ sym (append_assoc (f i x) (each_at f (suc i) l) (each_at f (i + suc (length l)) m))
 
   -- where all from a place on are moved alike
-  pub at-alike : (f : ℕ → A → List A) (g : A → List A) (i : ℕ) (l : List A)
+  at-alike : (f : ℕ → A → List A) (g : A → List A) (i : ℕ) (l : List A)
       → ((j : ℕ) → i ≤ j → j < i + length l → (x : A) → f j x ≡ g x) → each_at f i l ≡ each g l
   unfolding each_at each
   at-alike f g i [] h = refl
@@ -204,35 +204,6 @@ pub kind-here : (k : Kind) (p : ℕ) (g : Standing → List Standing) (x : Strea
 unfolding change sends_at
 kind-here k p g x = at_default p (move_kind k g) x.sends no_sends (none-moved k g)
 
--- Whether declarations are registered, asked of a stream's machines of a type and of the Domain machines from slot j on.
-module _ (reg : Declaration → Bool) where
-  abbrev pub Asked : Kind → ℕ → Bool → Type 0
-  Asked advertises id r = (v : Offer) → reg (advertise_of id v) ≡ r
-  Asked faileds id r = (v : Offer × Failure) → reg (failed_of id v) ≡ r
-  Asked listeners id r = (v : Ready) → reg (listener_declaration id v) ≡ r
-
-  abbrev pub AskedSlots : Settings → ℕ → List Domain → Type 0
-  AskedSlots st j ds = (n : ℕ) → n < length ds → reg (domain_of st (j + n)) ≡ domain_stays (get_or ds n no_domain)
-
-  pub slot-first : (st : Settings) (j : ℕ) (d : Domain) (ds : List Domain) → AskedSlots st j (d ∷ ds) → reg (domain_of st j) ≡ domain_stays d
-  slot-first st j d ds h =
-      let z : j + 0 ≡ j = omega arith in
-      rw z at (h 0 (omega arith))
-
-  pub slots-later : (st : Settings) (j : ℕ) (d : Domain) (ds : List Domain) → AskedSlots st j (d ∷ ds) → AskedSlots st (suc j) ds
-  slots-later st j d ds h n k =
-      let z : j + suc n ≡ suc j + n = omega arith in
-      rw z at (h (suc n) (omega arith))
-
-  -- what is left of a machine by its place is what a write's way leaves of it
-  pub left-by-way : (all t : Bool) (x : Listed Declaration)
-      → map (with x.value) (cond t (becomes (reg x.value) (opportunity all) x.state) (cond all (becomes (reg x.value) tx_laf x.state) (x.state ∷ [])))
-      ≡ cond t ((way all reg).inside x) ((way all reg).outside x)
-  left-by-way false true x = unfold way after opportunity in refl
-  left-by-way true true x = unfold way after opportunity in refl
-  left-by-way true false x = unfold way after in refl
-  left-by-way false false x = unfold way itself with in refl
-
 module _ (f : ℕ → Bool → Standing → List Standing) (one : (i : ℕ) (r : Bool) (q : Standing) → length (f i r q) ≤ 1) (reg : Declaration → Bool) where
   -- what is left of a declaration at place i
   unfoldable pub left_at : ℕ → Listed Declaration → List (Listed Declaration)
@@ -251,7 +222,12 @@ module _ (f : ℕ → Bool → Standing → List Standing) (one : (i : ℕ) (r :
       go (q ∷ t ∷ m) h = absurd (omega arith)
 
   -- a stream's Registrar of a type, whatever its values
-  sends-moved : (k : Kind) (id : ℕ) (r : Bool) → Asked reg k id r → (i : ℕ) (s : Sends)
+  abbrev Asked : Kind → ℕ → Bool → Type 0
+  Asked advertises id r = (v : Offer) → reg (advertise_of id v) ≡ r
+  Asked faileds id r = (v : Offer × Failure) → reg (failed_of id v) ≡ r
+  Asked listeners id r = (v : Ready) → reg (listener_declaration id v) ≡ r
+
+  sends-moved : (k : Kind) (id : ℕ) (r : Bool) → Asked k id r → (i : ℕ) (s : Sends)
       → declarations_of k id (move_kind k (f i r) s) ≡ each_at left_at i (declarations_of k id s)
   unfolding declarations_of move_kind
   sends-moved advertises id r e i s = listed-moved (advertise_of id) r e i s.advertising
@@ -259,7 +235,7 @@ module _ (f : ℕ → Bool → Standing → List Standing) (one : (i : ℕ) (r :
   sends-moved listeners id r e i s = listed-moved (listener_declaration id) r e i s.listening
 
   -- all streams' machines of a type
-  kind-moved : (k : Kind) (p i : ℕ) (s : List Stream) → All (λ x. Asked reg k x.id (registered_in k (cell_at x p))) s
+  kind-moved : (k : Kind) (p i : ℕ) (s : List Stream) → All (λ x. Asked k x.id (registered_in k (cell_at x p))) s
       → of_kind k p (moved_kind f k p i s) ≡ each_at left_at i (of_kind k p s)
   unfolding of_kind moved_kind change
   kind-moved k p i [] a = unfold each_at in refl
@@ -291,9 +267,9 @@ module _ (f : ℕ → Bool → Standing → List Standing) (one : (i : ℕ) (r :
 
   -- the streams' list: Advertise, Failed, Listener
   module _ (p : ℕ) (s : List Stream)
-      (a : All (λ x. Asked reg advertises x.id (registered_in advertises (get_or x.cells p empty))) s)
-      (b : All (λ x. Asked reg faileds x.id (registered_in faileds (get_or x.cells p empty))) s)
-      (c : All (λ x. Asked reg listeners x.id (registered_in listeners (get_or x.cells p empty))) s) where
+      (a : All (λ x. Asked advertises x.id (registered_in advertises (get_or x.cells p empty))) s)
+      (b : All (λ x. Asked faileds x.id (registered_in faileds (get_or x.cells p empty))) s)
+      (c : All (λ x. Asked listeners x.id (registered_in listeners (get_or x.cells p empty))) s) where
     abbrev failed_place : ℕ
     failed_place = machines_of advertises p s
 
@@ -324,7 +300,7 @@ module _ (f : ℕ → Bool → Standing → List Standing) (one : (i : ℕ) (r :
         ap (of_kind faileds p) streams-are
         ∙ kind-stays faileds listeners tt p listener_place second
         ∙ kind-moved faileds p failed_place first
-        (unfold cell_at in (asked-stays (λ i cs. Asked reg faileds i (registered_in faileds (get_or cs p empty))) advertises p 0 s b))
+        (unfold cell_at in (asked-stays (λ i cs. Asked faileds i (registered_in faileds (get_or cs p empty))) advertises p 0 s b))
         ∙ ap (each_at left_at failed_place) (kind-stays faileds advertises tt p 0 s)
 
     listeners-moved : of_kind listeners p (moved_streams f p s) ≡ each_at left_at listener_place (of_kind listeners p s)
@@ -333,23 +309,34 @@ module _ (f : ℕ → Bool → Standing → List Standing) (one : (i : ℕ) (r :
         ap (of_kind listeners p) streams-are
         ∙ kind-moved listeners p listener_place second
         (unfold cell_at in
-        (asked-stays (λ i cs. Asked reg listeners i (registered_in listeners (get_or cs p empty))) faileds p failed_place first
-        (asked-stays (λ i cs. Asked reg listeners i (registered_in listeners (get_or cs p empty))) advertises p 0 s c)))
+        (asked-stays (λ i cs. Asked listeners i (registered_in listeners (get_or cs p empty))) faileds p failed_place first
+        (asked-stays (λ i cs. Asked listeners i (registered_in listeners (get_or cs p empty))) advertises p 0 s c)))
         ∙ ap (each_at left_at listener_place) (kind-stays listeners faileds tt p failed_place first ∙ kind-stays listeners advertises tt p 0 s)
 
   -- Domain values, slot by slot
   slots-moved : (st : Settings) (i j : ℕ) (ds : List Domain) (l : List (Applicant (Unit {0}))) → length ds ≡ length l
-      → AskedSlots reg st j ds → domain_values st j (moved_slots f i ds l) ≡ each_at left_at i (domain_values st j l)
+      → ((n : ℕ) → n < length ds → reg (domain_of st (j + n)) ≡ domain_stays (get_or ds n no_domain))
+      → domain_values st j (moved_slots f i ds l) ≡ each_at left_at i (domain_values st j l)
   unfolding domain_values moved_slots
   slots-moved st i j [] [] e h = unfold each_at in refl
   slots-moved st i j [] (a ∷ l) e h = absurd (omega arith)
   slots-moved st i j (d ∷ ds) [] e h = absurd (omega arith)
   slots-moved st i j (d ∷ ds) (a ∷ l) e h =
       ap₂ (λ (m n : List (Listed Declaration)). m ++ n)
-      (listed-moved (λ (u : Unit {0}). domain_of st j) (domain_stays d) (λ u. slot-first reg st j d ds h) i a)
-      (slots-moved st (i + bit (is_applicant a)) (suc j) ds l (omega arith) (slots-later reg st j d ds h))
+      (listed-moved (λ (u : Unit {0}). domain_of st j) (domain_stays d) (λ u. own) i a)
+      (slots-moved st (i + bit (is_applicant a)) (suc j) ds l (omega arith) later)
       ∙ ap (λ (n : ℕ). each_at left_at i (listed_as (λ (u : Unit {0}). domain_of st j) a) ++ each_at left_at (i + n) (domain_values st (suc j) l)) (sym (listed-count (λ (u : Unit {0}). domain_of st j) a))
       ∙ sym (at-append left_at i (listed_as (λ (u : Unit {0}). domain_of st j) a) (domain_values st (suc j) l))
+    where
+      own : reg (domain_of st j) ≡ domain_stays d
+      own =
+          let z : j + 0 ≡ j = omega arith in
+          rw z at (h 0 (omega arith))
+
+      later : (n : ℕ) → n < length ds → reg (domain_of st (suc j + n)) ≡ domain_stays (get_or ds n no_domain)
+      later n k =
+          let z : j + suc n ≡ suc j + n = omega arith in
+          rw z at (h (suc n) (omega arith))
 
 -- What a write does beside: LeaveAll's leavings move no machine, on whatever port, and a stream that goes has none.
 
@@ -414,23 +401,6 @@ pub record ListedPort (b : Bridge) (p : ℕ) : Type 0 where
   pub sender : p < length b.senders
   pub slots : length (own_at b.owns p).domains ≡ length (sender_at b.senders p).domains
 
--- what stands in a port's list is asked of the cells and Domain values of that port
-module _ (b : Bridge) (p : ℕ) where
-  pub asks : Rising (ids b.streams) → (k : Kind) → All (λ x. Asked (is_registered b p) k x.id (registered_in k (cell_at x p))) b.streams
-  asks v advertises = unfold is_registered advertise_of talker_kind in all_map _ _ (λ x e v. e) b.streams (registered-self advertises p b.streams v)
-  asks v faileds = unfold is_registered failed_of talker_kind in all_map _ _ (λ x e v. e) b.streams (registered-self faileds p b.streams v)
-  asks v listeners = unfold is_registered in all_map _ _ (λ x e v. e) b.streams (registered-self listeners p b.streams v)
-
-  domain-slot : (n : ℕ) → slot_of (5 + n / 8) (n % 8) ≡ n
-  unfolding slot_of
-  domain-slot n = omega arith
-
-  pub asks-domains : AskedSlots (is_registered b p) b.settings 0 (own_at b.owns p).domains
-  unfolding is_registered domain_of
-  asks-domains n k =
-      let z : 0 + n ≡ n = omega arith in
-      rw (z, domain-slot n)
-
 module _ (b : Bridge) (p place : ℕ) (v : ListedPort b p) (h : place ≤ length (declarations b p)) where
   abbrev all : Bool
   all = leaves_all b p
@@ -448,9 +418,27 @@ module _ (b : Bridge) (p place : ℕ) (v : ListedPort b p) (h : place ≤ length
   abbrev g : ℕ → Listed Declaration → List (Listed Declaration)
   g = left_at f one reg
 
-  asked : (k : Kind) → All (λ x. Asked reg k x.id (registered_in k (get_or x.cells p empty))) b.streams
-  unfolding cell_at
-  asked = asks b p v.ascending
+  asks-advertises : All (λ x. Asked f one reg advertises x.id (registered_in advertises (get_or x.cells p empty))) b.streams
+  unfolding is_registered advertise_of talker_kind cell_at
+  asks-advertises = all_map _ _ (λ x e v. e) b.streams (registered-self advertises p b.streams v.ascending)
+
+  asks-faileds : All (λ x. Asked f one reg faileds x.id (registered_in faileds (get_or x.cells p empty))) b.streams
+  unfolding is_registered failed_of talker_kind cell_at
+  asks-faileds = all_map _ _ (λ x e v. e) b.streams (registered-self faileds p b.streams v.ascending)
+
+  asks-listeners : All (λ x. Asked f one reg listeners x.id (registered_in listeners (get_or x.cells p empty))) b.streams
+  unfolding is_registered cell_at
+  asks-listeners = all_map _ _ (λ x e v. e) b.streams (registered-self listeners p b.streams v.ascending)
+
+  domain-slot : (n : ℕ) → slot_of (5 + n / 8) (n % 8) ≡ n
+  unfolding slot_of
+  domain-slot n = omega arith
+
+  asks-domains : (n : ℕ) → n < length (own_at b.owns p).domains → reg (domain_of b.settings (0 + n)) ≡ domain_stays (get_or (own_at b.owns p).domains n no_domain)
+  unfolding is_registered domain_of
+  asks-domains n k =
+      let z : 0 + n ≡ n = omega arith in
+      rw (z, domain-slot n)
 
   streams-after : (k : Kind) → of_kind k p (after_write b p place).streams ≡ of_kind k p (moved_streams f p b.streams)
   unfolding after_write f
@@ -466,7 +454,7 @@ module _ (b : Bridge) (p place : ℕ) (v : ListedPort b p) (h : place ≤ length
   unfolding after_write sender_at moved_sender f
   domains-after =
       rw (at_here p (moved_sender (moved_at all place (end_on b p place)) b.clock all (own_at b.owns p) domain_place) b.senders no_sender v.sender)
-      (slots-moved f one reg b.settings domain_place 0 (own_at b.owns p).domains (get_or b.senders p no_sender).domains v.slots (asks-domains b p))
+      (slots-moved f one reg b.settings domain_place 0 (own_at b.owns p).domains (get_or b.senders p no_sender).domains v.slots asks-domains)
 
   in-turn : (l m n o : List (Listed Declaration))
       → each_at g 0 (l ++ (m ++ (n ++ o)))
@@ -481,9 +469,9 @@ module _ (b : Bridge) (p place : ℕ) (v : ListedPort b p) (h : place ≤ length
   by-places : declarations (after_write b p place) p ≡ each_at g 0 (declarations b p)
   unfolding declarations
   by-places =
-      ap₂ (λ (l m : List (Listed Declaration)). l ++ m) (streams-after advertises ∙ advertises-moved f one reg p s (asked advertises) (asked faileds) (asked listeners))
-      (ap₂ (λ (l m : List (Listed Declaration)). l ++ m) (streams-after faileds ∙ faileds-moved f one reg p s (asked advertises) (asked faileds) (asked listeners))
-      (ap₂ (λ (l m : List (Listed Declaration)). l ++ m) (streams-after listeners ∙ listeners-moved f one reg p s (asked advertises) (asked faileds) (asked listeners))
+      ap₂ (λ (l m : List (Listed Declaration)). l ++ m) (streams-after advertises ∙ advertises-moved f one reg p s asks-advertises asks-faileds asks-listeners)
+      (ap₂ (λ (l m : List (Listed Declaration)). l ++ m) (streams-after faileds ∙ faileds-moved f one reg p s asks-advertises asks-faileds asks-listeners)
+      (ap₂ (λ (l m : List (Listed Declaration)). l ++ m) (streams-after listeners ∙ listeners-moved f one reg p s asks-advertises asks-faileds asks-listeners)
       last))
       ∙ sym (in-turn (of_kind advertises p s) (of_kind faileds p s) (of_kind listeners p s) domains
       ∙ rw (kind-count advertises p s, kind-count faileds p s, kind-count listeners p s))
@@ -499,7 +487,18 @@ module _ (b : Bridge) (p place : ℕ) (v : ListedPort b p) (h : place ≤ length
 
   as_written : (i : ℕ) (x : Listed Declaration) → g i x ≡ at_place (port_way b p) place (end_on b p place) i x
   unfolding left_at f moved_at at_place port_way
-  as_written i x = left-by-way reg all (leb place i && ltb i (end_on b p place)) x
+  as_written i x = go all (leb place i && ltb i (end_on b p place))
+    where
+      r : Bool
+      r = reg x.value
+
+      go : (all t : Bool)
+          → map (with x.value) (cond t (becomes r (opportunity all) x.state) (cond all (becomes r tx_laf x.state) (x.state ∷ [])))
+          ≡ cond t ((way all reg).inside x) ((way all reg).outside x)
+      go false true = unfold way after opportunity in refl
+      go true true = unfold way after opportunity in refl
+      go true false = unfold way after in refl
+      go false false = unfold way itself with in refl
 
   -- its declarations are then just what is left of them
   pub write-leaves : declarations (after_write b p place) p ≡ (wrote_on b p place).list

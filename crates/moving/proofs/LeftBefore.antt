@@ -2,21 +2,21 @@
 use mathlib.Core.Path.{◌≡◌, refl, sym, ◌∙◌, ap, ap₂}
 use mathlib.Core.List.{List, [], ◌∷◌, ◌++◌, map}
 use mathlib.Core.Bool.{Bool, true, false, cond}
-use Prim.Native.Nat.{ℕ, suc, ◌+◌, ◌≤◌}
+use Prim.Native.Nat.{ℕ, suc, ◌+◌, ◌≤◌, ◌<◌}
 use native.Mathlib.Nat.{add-zero}
 use native.Mathlib.Omega.{arith}
-use lib.ListN.{length, length-append}
+use lib.ListN.{length, get_or, length-append}
 use lib.Dec.{ltb}
 use Rattle.model.specs.Lists.{All, bit}
 use Rattle.model.specs.Applicant.{Standing}
 use Rattle.model.specs.Machines.{Listed, Applicant, no_applicant, applicant, with, applicant_of, moved}
-use Rattle.model.specs.State.{Settings, Domain, Sends, Stream, no_sends, cell_at, sends_at}
+use Rattle.model.specs.State.{Settings, Domain, no_domain, Ready, Offer, Failure, Sends, Stream, no_sends, cell_at, sends_at}
 use Rattle.model.specs.Registrations.{Kind, advertises, faileds, listeners, at, change, move_kind, registered_in, domain_stays}
 use Rattle.model.specs.Settling.{is_applicant}
 use Rattle.model.specs.Declarations.{Declaration, listener_declaration, listed_as, advertise_of, failed_of, declarations_of, of_kind, domain_of, domain_values}
 use Rattle.model.specs.Writing.{machines, moved_kind}
 use Rattle.model.proofs.Lists.{at_each}
-use Rattle.model.proofs.WrittenList.{Asked, AskedSlots, slot-first, slots-later, each_at, at-append, moved-one}
+use Rattle.model.proofs.WrittenList.{each_at, at-append, moved-one}
 use Rattle.moving.specs.declared.Span.{Span}
 use Rattle.moving.specs.declared.Met.{Met}
 use Rattle.moving.specs.Moves.{moved_by, met_by, met_sends, met_stream, met_kind, met_slot, met_slots, none_met, met_types}
@@ -99,13 +99,18 @@ module _ (w : Span) (reg : Declaration → Bool) where
         go false = refl
 
   -- those of a type, of each stream
-  sends-met : (k : Kind) (id : ℕ) (r : Bool) → Asked reg k id r → (m : Met) (y : Sends) → met_sends w m k r y ≡ met_list m (declarations_of k id y)
+  abbrev pub Asked : Kind → ℕ → Bool → Type 0
+  Asked advertises id r = (v : Offer) → reg (advertise_of id v) ≡ r
+  Asked faileds id r = (v : Offer × Failure) → reg (failed_of id v) ≡ r
+  Asked listeners id r = (v : Ready) → reg (listener_declaration id v) ≡ r
+
+  sends-met : (k : Kind) (id : ℕ) (r : Bool) → Asked k id r → (m : Met) (y : Sends) → met_sends w m k r y ≡ met_list m (declarations_of k id y)
   unfolding met_sends machines move_kind declarations_of
   sends-met advertises id r e m y = one-met (advertise_of id) r e m y.advertising
   sends-met faileds id r e m y = one-met (failed_of id) r e m y.failing
   sends-met listeners id r e m y = one-met (listener_declaration id) r e m y.listening
 
-  pub kind-met : (k : Kind) (p : ℕ) (m : Met) (s : List Stream) → All (λ x. Asked reg k x.id (registered_in k (cell_at x p))) s
+  pub kind-met : (k : Kind) (p : ℕ) (m : Met) (s : List Stream) → All (λ x. Asked k x.id (registered_in k (cell_at x p))) s
       → met_kind w m k p s ≡ met_list m (of_kind k p s)
   unfolding met_kind of_kind met_stream
   kind-met k p m [] a = sym (list-none m)
@@ -117,12 +122,22 @@ module _ (w : Span) (reg : Declaration → Bool) where
 
   -- those of Domain values, slot by slot
   pub slots-met : (st : Settings) (j : ℕ) (m : Met) (ds : List Domain) (l : List (Applicant (Unit {0}))) → length ds ≡ length l
-      → AskedSlots reg st j ds → met_slots w m ds l ≡ met_list m (domain_values st j l)
+      → ((n : ℕ) → n < length ds → reg (domain_of st (j + n)) ≡ domain_stays (get_or ds n no_domain)) → met_slots w m ds l ≡ met_list m (domain_values st j l)
   unfolding met_slots domain_values met_slot
   slots-met st j m [] [] e h = sym (list-none m)
   slots-met st j m [] (a ∷ l) e h = absurd (omega arith)
   slots-met st j m (d ∷ ds) [] e h = absurd (omega arith)
   slots-met st j m (d ∷ ds) (a ∷ l) e h =
-      slots-met st (suc j) (met_slot w m (domain_stays d) a) ds l (omega arith) (slots-later reg st j d ds h)
-      ∙ ap (λ (n : Met). met_list n (domain_values st (suc j) l)) (one-met (λ (u : Unit {0}). domain_of st j) (domain_stays d) (λ u. slot-first reg st j d ds h) m a)
+      slots-met st (suc j) (met_slot w m (domain_stays d) a) ds l (omega arith) later
+      ∙ ap (λ (n : Met). met_list n (domain_values st (suc j) l)) (one-met (λ (u : Unit {0}). domain_of st j) (domain_stays d) (λ u. own) m a)
       ∙ sym (list-append m (listed_as (λ (u : Unit {0}). domain_of st j) a) (domain_values st (suc j) l))
+    where
+      own : reg (domain_of st j) ≡ domain_stays d
+      own =
+          let z : j + 0 ≡ j = omega arith in
+          rw z at (h 0 (omega arith))
+
+      later : (n : ℕ) → n < length ds → reg (domain_of st (suc j + n)) ≡ domain_stays (get_or ds n no_domain)
+      later n k =
+          let z : j + suc n ≡ suc j + n = omega arith in
+          rw z at (h (suc n) (omega arith))
