@@ -21,7 +21,7 @@ use Rattle.model.specs.Table.{presence_numbers, address_numbers, address_octets,
 use Rattle.model.specs.Laid.{FitOwn, LaidOwn}
 use Rattle.model.proofs.Parts.{length-zeros, zeros-add, length-flat-sized}
 use Rattle.model.proofs.Addresses.{address-length, addresses-sized}
-use Rattle.table.specs.declared.Found.TheVariants.{At, Gap}
+use Rattle.std.specs.Prelude.{Ok, Err}
 use Rattle.table.specs.Find.{found_at}
 use Rattle.table.proofs.Moving.{gap-made, gap-closed}
 use Rattle.table.proofs.OwnParts.{laid-own-is, laid-own-fits}
@@ -151,14 +151,14 @@ module _ (s : List ℕ) (d : LaidOwn s) (m k : ℕ) where
   abbrev those : List Address
   those = (to_own s).addresses
 
-  pub enrolled-there : found_at m 0 (macs those) ≡ At k → (true ≡ leb (length (with_room m those)) most_addresses) × (s ≡ own_octets (change_addresses (with_room m) (to_own s)))
+  pub enrolled-there : found_at m 0 (macs those) ≡ Ok k → (true ≡ leb (length (with_room m those)) most_addresses) × (s ≡ own_octets (change_addresses (with_room m) (to_own s)))
   enrolled-there e =
       let r = (held_at m k those e).room in (
         sym (le-leb (length (with_room m those)) most_addresses (rw r (laid-own-fits s d).addresses.at_most_64)),
         laid-own-is s d ∙ own_same (to_own s) ∙ changed-same (to_own s) (λ l. l) (with_room m) (sym r),
       )
 
-  module _ (e : found_at m 0 (macs those) ≡ Gap k) where
+  module _ (e : found_at m 0 (macs those) ≡ Err k) where
     one_more : length (with_room m those) ≡ length those + 1
     one_more = let r = missing_at m k those e in ap length r.room ∙ length-put m k those r.within
 

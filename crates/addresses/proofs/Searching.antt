@@ -12,13 +12,15 @@ use Rattle.model.specs.Lists.{All}
 use Rattle.model.specs.State.{Address}
 use Rattle.model.specs.Registrations.{at, joined_address, macs, quit_address, with_joined, with_left}
 use Rattle.model.specs.Settling.{holds_address}
-use Rattle.model.specs.Laid.{Ascending}
+use Rattle.model.specs.Table.{to_own}
+use Rattle.model.specs.Laid.{Ascending, LaidOwn}
 use Rattle.model.proofs.Lists.{all_map}
 use Rattle.model.proofs.Commute.{Tri, less, same, more, tri}
-use Rattle.table.specs.declared.Found.TheVariants.{At, Gap}
+use Rattle.std.specs.Prelude.{Ok, Err, is_ok}
 use Rattle.table.specs.Find.{found_at}
 use Rattle.table.proofs.Finding.{found_before, found_here, found-past}
 use Rattle.table.proofs.Places.{not-both}
+use Rattle.table.proofs.OwnParts.{laid-own-fits}
 use Rattle.addresses.specs.Room.{vacant_at, with_room, put_in}
 
 -- The arms of the definitions, by how an address compares with the first one held.
@@ -71,17 +73,17 @@ module _ (m : ℕ) (a : Address) (l : List Address) where
 -- A turn of the search, at the address x of place k.
 
 module _ (m k : ℕ) (ms : List ℕ) where
-  pub look-end : length ms ≤ k → found_at m k (drop k ms) ≡ Gap k
+  pub look-end : length ms ≤ k → found_at m k (drop k ms) ≡ Err k
   look-end h = rw (drop_of_length-le ms {i = k} h) (unfold found_at in refl)
 
   module _ (x : ℕ) (h : k < length ms) (e : x ≡ get_or ms k 0) where
     opened : drop k ms ≡ x ∷ drop (suc k) ms
     opened = drop-cons ms k 0 h ∙ ap (λ (y : ℕ). y ∷ drop (suc k) ms) (sym e)
 
-    pub look-before : m < x → found_at m k (drop k ms) ≡ Gap k
+    pub look-before : m < x → found_at m k (drop k ms) ≡ Err k
     look-before q = rw opened (found_before m k x (drop (suc k) ms) q)
 
-    pub look-here : m ≡ x → found_at m k (drop k ms) ≡ At k
+    pub look-here : m ≡ x → found_at m k (drop k ms) ≡ Ok k
     look-here q = rw opened (found_here m k x (drop (suc k) ms) q)
 
     pub look-past : x < m → found_at m k (drop k ms) ≡ found_at m (k + 1) (drop (k + 1) ms)
@@ -116,13 +118,13 @@ lower m (a ∷ l) h =
     record { leaves = λ now. left-past m a l d now ∙ ap (λ (x : List Address). a ∷ x) (r.leaves now); holds = holds-past m a l d ∙ r.holds }
 
 data Search (m n : ℕ) (l : List Address) : Type 0 where
-  there : (k : ℕ) → found_at m n (macs l) ≡ At (n + k) → HeldAt m k l → Search m n l
-  missing : (k : ℕ) → found_at m n (macs l) ≡ Gap (n + k) → MissingAt m k l → Search m n l
+  there : (k : ℕ) → found_at m n (macs l) ≡ Ok (n + k) → HeldAt m k l → Search m n l
+  missing : (k : ℕ) → found_at m n (macs l) ≡ Err (n + k) → MissingAt m k l → Search m n l
 
 search-for : (m n : ℕ) (l : List Address) → Search m n l
 unfolding macs
 search-for m n [] =
-    missing 0 (unfold found_at in ap Gap (omega arith)) record {
+    missing 0 (unfold found_at in ap Err (omega arith)) record {
       within = omega arith;
       room = unfold with_room put_in in refl;
       joins = unfold with_joined put_in at in refl;
@@ -132,14 +134,14 @@ search-for m n (a ∷ l) = go (tri m a.mac) (search-for m (suc n) l)
   where
     go : Tri m a.mac → Search m (suc n) l → Search m n (a ∷ l)
     go (less h) s =
-        missing 0 (found_before m n a.mac (macs l) h ∙ ap Gap (omega arith)) record {
+        missing 0 (found_before m n a.mac (macs l) h ∙ ap Err (omega arith)) record {
           within = omega arith;
           room = room-before m a l h ∙ unfold put_in in refl;
           joins = join-before m a l h ∙ unfold put_in at in refl;
           lacks = λ r. lower m (a ∷ l) (h, all_map (λ j. a.mac < j) (λ j. m < j) (λ j q. omega arith) (macs l) r.0);
         }
     go (same h) s =
-        there 0 (found_here m n a.mac (macs l) h ∙ ap At (omega arith)) record {
+        there 0 (found_here m n a.mac (macs l) h ∙ ap Ok (omega arith)) record {
           within = omega arith;
           room = room-here m a l h;
           joins = join-here m a l h ∙ unfold at in refl;
@@ -148,7 +150,7 @@ search-for m n (a ∷ l) = go (tri m a.mac) (search-for m (suc n) l)
         }
     go (more h) (there k f r) =
         let d : m ≡ a.mac → ⊥ = λ e. omega arith in
-        there (suc k) (found-past m n a.mac (macs l) h ∙ f ∙ ap At (omega arith)) record {
+        there (suc k) (found-past m n a.mac (macs l) h ∙ f ∙ ap Ok (omega arith)) record {
           within = omega (arith, r.within);
           room = room-past m a l h ∙ ap (λ (x : List Address). a ∷ x) r.room;
           joins = join-past m a l h ∙ unfold at in ap (λ (x : List Address). a ∷ x) r.joins;
@@ -157,7 +159,7 @@ search-for m n (a ∷ l) = go (tri m a.mac) (search-for m (suc n) l)
         }
     go (more h) (missing k f r) =
         let d : m ≡ a.mac → ⊥ = λ e. omega arith in
-        missing (suc k) (found-past m n a.mac (macs l) h ∙ f ∙ ap Gap (omega arith)) record {
+        missing (suc k) (found-past m n a.mac (macs l) h ∙ f ∙ ap Err (omega arith)) record {
           within = omega (arith, r.within);
           room = room-past m a l h ∙ unfold put_in in ap (λ (x : List Address). a ∷ x) r.room;
           joins = join-past m a l h ∙ unfold put_in at in ap (λ (x : List Address). a ∷ x) r.joins;
@@ -166,7 +168,7 @@ search-for m n (a ∷ l) = go (tri m a.mac) (search-for m (suc n) l)
               record { leaves = λ now. left-past m a l d now ∙ ap (λ (x : List Address). a ∷ x) (q.leaves now); holds = holds-past m a l d ∙ q.holds };
         }
 
-pub held_at : (m k : ℕ) (l : List Address) → found_at m 0 (macs l) ≡ At k → HeldAt m k l
+pub held_at : (m k : ℕ) (l : List Address) → found_at m 0 (macs l) ≡ Ok k → HeldAt m k l
 held_at m k l f = go (search-for m 0 l)
   where
     go : Search m 0 l → HeldAt m k l
@@ -176,7 +178,7 @@ held_at m k l f = go (search-for m 0 l)
         rw (← q) r
     go (missing j g r) = absurd (not-both f g)
 
-pub missing_at : (m k : ℕ) (l : List Address) → found_at m 0 (macs l) ≡ Gap k → MissingAt m k l
+pub missing_at : (m k : ℕ) (l : List Address) → found_at m 0 (macs l) ≡ Err k → MissingAt m k l
 missing_at m k l f = go (search-for m 0 l)
   where
     go : Search m 0 l → MissingAt m k l
@@ -186,8 +188,16 @@ missing_at m k l f = go (search-for m 0 l)
         let q : j ≡ k = omega arith in
         rw (← q) r
 
+-- whether it is found is whether it is held
+pub is_found : (s : List ℕ) → LaidOwn s → (m : ℕ) → is_ok (found_at m 0 (macs (to_own s).addresses)) ≡ holds_address m (to_own s).addresses
+is_found s d m = go (search-for m 0 (to_own s).addresses)
+  where
+    go : Search m 0 (to_own s).addresses → is_ok (found_at m 0 (macs (to_own s).addresses)) ≡ holds_address m (to_own s).addresses
+    go (there k f r) = rw f (sym r.holds)
+    go (missing k f r) = rw f (sym (r.lacks (laid-own-fits s d).addresses.ascending).holds)
+
 -- one that has a record is found
-pub held-somewhere : (m : ℕ) (l : List Address) → Ascending (macs l) → holds_address m l ≡ true → (k : ℕ) → found_at m 0 (macs l) ≡ Gap k → ⊥
+pub held-somewhere : (m : ℕ) (l : List Address) → Ascending (macs l) → holds_address m l ≡ true → (k : ℕ) → found_at m 0 (macs l) ≡ Err k → ⊥
 held-somewhere m l a h k f = true≢false (sym h ∙ ((missing_at m k l f).lacks a).holds)
 
 pub room-holds : (m : ℕ) (l : List Address) → holds_address m (with_room m l) ≡ true

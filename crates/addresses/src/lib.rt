@@ -14,7 +14,7 @@ ghost use Rattle.addresses.specs.Held.{AddressIn, HeldGiven, RoomAt};
 ghost use Rattle.addresses.specs.Room.{present_only, lapse_address, put_in, taken_out, with_room};
 
 use table::address::{LEAVES, MAC, REGISTERED};
-use table::{ADDRESS, ADDRESSES, ADDRESSES_HELD, Found, MOST_ADDRESSES};
+use table::{ADDRESS, ADDRESSES, ADDRESSES_HELD, MOST_ADDRESSES};
 
 // The octets of a record before its address: registered, leaving, since.
 const PRESENCE: usize = MAC;
@@ -28,34 +28,30 @@ fn count(own: &[u8]) -> usize
 }
 
 // The place of an address, or where it would stand.
-fn find(own: &[u8], mac: u64) -> Found
+fn find(own: &[u8], mac: u64) -> Result<usize, usize>
     requires { LaidOwn own.now × (length own.now ≡ own_size) }
     ensures { result ≡ found_at mac 0 (macs (to_own own.now).addresses) }
 {
     let held = count(own);
-    let mut k: usize = 0;
-    while k < held {
+    for k in 0..held {
         let x = octets::get(own, ADDRESSES + k * ADDRESS + MAC, 6);
         if mac < x {
-            return Found::Gap(k);
+            return Err(k);
         }
         if mac == x {
-            return Found::At(k);
+            return Ok(k);
         }
-        k += 1;
     }
-    Found::Gap(held)
+    Err(held)
 }
 
 // Whether the port holds an address, leaving ones included.
+#[tactic(auto, using(crate::proofs::Searching::is_found))]
 pub fn holds(own: &[u8], mac: u64) -> bool
     requires { LaidOwn own.now × (length own.now ≡ own_size) }
     ensures { result ≡ holds_address mac (to_own own.now).addresses }
 {
-    let Found::At(_) = find(own, mac) else {
-        return false;
-    };
-    true
+    find(own, mac).is_ok()
 }
 
 // A vacant record for an address at place k: those from there on move up.
@@ -65,7 +61,7 @@ fn insert(own: &mut [u8], k: usize, mac: u64)
 {
     let n = count(own);
     let at = ADDRESSES + k * ADDRESS;
-    table::move_up(own, at, ADDRESS, (n - k) * ADDRESS);
+    own.copy_within(at..ADDRESSES + n * ADDRESS, at + ADDRESS);
     octets::clear(own, at, ADDRESS);
     octets::put(own, at + MAC, 6, mac);
     octets::put(own, ADDRESSES_HELD, 1, (n + 1) as u64);
@@ -77,8 +73,10 @@ fn remove(own: &mut [u8], k: usize)
     ensures { own.new ≡ own_octets (change_addresses (taken_out k) (to_own own.old)) }
 {
     let last = count(own) - 1;
-    table::move_down(own, ADDRESSES + k * ADDRESS, ADDRESS, (last - k) * ADDRESS);
-    octets::clear(own, ADDRESSES + last * ADDRESS, ADDRESS);
+    let at = ADDRESSES + k * ADDRESS;
+    let end = ADDRESSES + last * ADDRESS;
+    own.copy_within(at + ADDRESS..end + ADDRESS, at);
+    octets::clear(own, end, ADDRESS);
     octets::put(own, ADDRESSES_HELD, 1, last as u64);
 }
 
@@ -88,7 +86,7 @@ pub fn enrol(own: &mut [u8], mac: u64) -> bool
     ensures { (result ≡ leb (length (with_room mac (to_own own.old).addresses)) most_addresses)
         × (own.new ≡ cond result (own_octets (change_addresses (with_room mac) (to_own own.old))) own.old) }
 {
-    let Found::Gap(k) = find(own, mac) else {
+    let Err(k) = find(own, mac) else {
         return true;
     };
     if count(own) == MOST_ADDRESSES {
@@ -113,7 +111,7 @@ pub fn join(own: &mut [u8], mac: u64)
     requires { HeldGiven own.old mac }
     ensures { own.new ≡ own_octets (change_addresses (with_joined mac) (to_own own.old)) }
 {
-    let Found::At(k) = find(own, mac) else {
+    let Ok(k) = find(own, mac) else {
         return;
     };
     let a = ADDRESSES + k * ADDRESS;
@@ -131,16 +129,14 @@ fn quit(address: &mut [u8], clock: u32)
 }
 
 // LeaveAll: each address begins to leave.
+// By place: of what as_chunks_mut lends a proof knows no element.
 pub fn leave_all(own: &mut [u8], clock: u32)
     requires { LaidOwn own.old × (length own.old ≡ own_size) }
     ensures { own.new ≡ own_octets (change_addresses (map (quit_address clock)) (to_own own.old)) }
 {
-    let held = count(own);
-    let mut k: usize = 0;
-    while k < held {
+    for k in 0..count(own) {
         let a = ADDRESSES + k * ADDRESS;
         quit(&mut own[a..a + ADDRESS], clock);
-        k += 1;
     }
 }
 
@@ -149,7 +145,7 @@ pub fn leave(own: &mut [u8], mac: u64, clock: u32)
     requires { LaidOwn own.old × (length own.old ≡ own_size) }
     ensures { own.new ≡ own_octets (change_addresses (with_left clock mac) (to_own own.old)) }
 {
-    let Found::At(k) = find(own, mac) else {
+    let Ok(k) = find(own, mac) else {
         return;
     };
     let a = ADDRESSES + k * ADDRESS;
@@ -157,13 +153,12 @@ pub fn leave(own: &mut [u8], mac: u64, clock: u32)
 }
 
 // Each address that has been leaving for at least the leave time made vacant.
+// By place: of what as_chunks_mut lends a proof knows no element.
 fn lapse_all(own: &mut [u8], leave: u32, time: u32)
     requires { LaidOwn own.old × (length own.old ≡ own_size) }
     ensures { own.new ≡ own_octets (change_addresses (map (lapse_address leave time)) (to_own own.old)) }
 {
-    let held = count(own);
-    let mut k: usize = 0;
-    while k < held {
+    for k in 0..count(own) {
         let a = ADDRESSES + k * ADDRESS;
         cells::lapse(
             &mut own[a..a + ADDRESS],
@@ -173,7 +168,6 @@ fn lapse_all(own: &mut [u8], leave: u32, time: u32)
             leave,
             time,
         );
-        k += 1;
     }
 }
 
@@ -182,9 +176,7 @@ pub fn drop_vacant(own: &mut [u8])
     requires { LaidOwn own.old × (length own.old ≡ own_size) }
     ensures { own.new ≡ own_octets (change_addresses present_only (to_own own.old)) }
 {
-    let mut k = count(own);
-    while 0 < k {
-        k -= 1;
+    for k in (0..count(own)).rev() {
         if own[ADDRESSES + k * ADDRESS] == 0 {
             remove(own, k);
         }

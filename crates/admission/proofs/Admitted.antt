@@ -1,9 +1,9 @@
 -- The turns of the streams that wait, by their sorted numbers, and the total stored after them make the admission of the port
 -- and class.
-use Prim.Native.Nat.{ℕ, ◌%◌, ◌^◌, ◌≤◌, ◌<◌}
+use Prim.Native.Nat.{ℕ, ◌%◌, ◌^◌, ◌<◌}
 use mathlib.Core.Path.{◌≡◌, ap, ◌∙◌}
 use mathlib.Core.List.{List, [], ◌∷◌, map}
-use lib.ListN.{length, take}
+use lib.ListN.{length}
 use Rattle.model.specs.Lists.{All}
 use Rattle.model.specs.State.{Class, Stream, Bridge}
 use Rattle.model.specs.Registrations.{ids, holding}
@@ -34,17 +34,16 @@ module _ {t : List ℕ} {p : ℕ} (s : PortIn t p) (c : Class) where
   w : FitBridge b
   w = laid-fits t s.laid
 
-  module _ (n : ℕ) (numbers : List ℕ) (in_order : take n numbers ≡ sorted (orders_on p c b)) where
-    pub sorted-numbered : n ≤ length numbers → Numbered t numbers n
-    sorted-numbered few = record {
+  module _ (numbers : List ℕ) (in_order : numbers ≡ sorted (orders_on p c b)) where
+    pub sorted-numbered : Numbered t numbers
+    sorted-numbered = record {
       laid = s.laid;
-      few = few;
       placed =
           rw in_order (all-sorted (λ m. m % 64 < length b.streams) (orders_on p c b) (orders-placed b.settings p c b.streams w.at_most_64));
     }
 
     module _ (limit used : ℕ) (g : limit ≡ limit_shown b.settings b p c) (after : List ℕ)
-        (h : used ≡ used_on p c limit (take n numbers) 0 b) (i : after ≡ encode (turns_on p c limit (take n numbers) 0 b)) where
+        (h : used ≡ used_on p c limit numbers 0 b) (i : after ≡ encode (turns_on p c limit numbers 0 b)) where
       abbrev l : ℕ
       l = limit_shown b.settings b p c
 

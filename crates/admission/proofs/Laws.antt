@@ -1,8 +1,10 @@
 -- Each step of stage 2, from the octets that the code reads and writes to the definitions.
+use Rattle.std.specs.Prelude.{Option, Some, None}
+use Rattle.std.specs.Option.{option_eq}
 use Prim.Native.Nat.{ℕ, zero, suc, ◌+◌, ◌*◌, ◌/◌, ◌%◌, ◌<◌}
 use mathlib.Core.Path.{◌≡◌, refl, sym, ap, ◌∙◌}
 use mathlib.Core.List.{List, [], ◌∷◌, ◌++◌, append_assoc, append-nil}
-use mathlib.Core.Bool.{Bool, true, false, not}
+use mathlib.Core.Bool.{Bool, true, false}
 use native.Mathlib.Omega.{arith}
 use native.Mathlib.Numerals.{add-one}
 use lib.ListN.{length, get_or, set, take, drop}
@@ -15,7 +17,7 @@ use Rattle.octets.specs.Fields.{fields, width}
 use Rattle.octets.proofs.Fields.{put-field}
 use Rattle.model.specs.Layout.{in_result, before, fixed_widths, in_cell, result_widths, in_totals, totals_widths}
 use Rattle.model.specs.Lists.{keep}
-use Rattle.model.specs.State.{Settings, Class, class_of, same_class, Fixed, Result, Stream, Totals, port_at, result_at, fresh}
+use Rattle.model.specs.State.{Settings, Class, class_a, class_b, class_of, same_class, Fixed, Result, Stream, Totals, port_at, result_at, fresh}
 use Rattle.model.specs.Frames.{priority_of, rank_of}
 use Rattle.model.specs.Bandwidth.{PerInterval, demand, rate_of}
 use Rattle.model.specs.Settling.{registered, is_ready, is_advertise}
@@ -24,27 +26,24 @@ use Rattle.model.specs.Laid.{LaidResult}
 use Rattle.model.proofs.SettingsOctets.{octet-field}
 use Rattle.model.proofs.Fits.{laid-result-is}
 use Rattle.table.specs.Reads.{to_fixed}
-use Rattle.streams.specs.declared.ClassRead.TheVariants.{NoClass, A, B}
-use Rattle.streams.specs.Answers.{class_shown}
+use Rattle.streams.specs.declared.Class as code
+use Rattle.streams.specs.declared.Class.TheVariants.{A, B}
+use Rattle.streams.specs.contracts.ClassPartialEq.TheImpl.{eq-value}
+use Rattle.streams.specs.Answers.{named, class_shown}
 use Rattle.columns.specs.Stages.{settled_class, waits, lacking, with_total}
 use Rattle.columns.proofs.Entries.{registered-read, ready-number}
-use Rattle.admission.specs.Sharing.{class_for, order, order_of, orders, demand_in}
+use Rattle.admission.specs.Sharing.{order, order_of, orders, demand_in}
 use Rattle.model.specs.WrittenFrames.{fixed_from}
 
--- The class that is shared out.
-
-module _ (b : Bool) where
-  pub class-none : false ≡ same_class (class_shown NoClass) (class_for b)
-  unfolding same_class class_shown
-  class-none = refl
-
-  pub class-a : not b ≡ same_class (class_shown A) (class_for b)
-  unfolding same_class class_shown class_for
-  class-a = elim b as (λ k. not k ≡ same_class (class_shown A) (class_for k)) [ true ↦ refl | false ↦ refl ]
-
-  pub class-b : b ≡ same_class (class_shown B) (class_for b)
-  unfolding same_class class_shown class_for
-  class-b = elim b as (λ k. k ≡ same_class (class_shown B) (class_for k)) [ true ↦ refl | false ↦ refl ]
+-- Whether a priority has a class.
+pub same-class : (r : Option code.Class) (c : code.Class) → option_eq eq-value.it r (Some c) ≡ same_class (class_shown r) (named c)
+unfolding same_class class_shown named
+same-class None A = refl
+same-class None B = refl
+same-class (Some A) A = refl
+same-class (Some A) B = refl
+same-class (Some B) A = refl
+same-class (Some B) B = refl
 
 -- A stream x on the port at place p, by the octets of its result there and of its settled values.
 
@@ -92,9 +91,9 @@ module _ (st : Settings) (p : ℕ) (x : Stream) (port fixed : List ℕ) (q : to_
   per-interval : record { octets = d } ≡ demand (port_at st p) x.settled
   per-interval = ap (λ (n : ℕ). record { octets = n }) (rw (q, f) at e)
 
-  pub rate-of : (b : Bool) → (rate_of (class_for b) record { octets = d }).bits ≡ demand_in st p (class_for b) x
+  pub rate-of : (c : Class) → (rate_of c record { octets = d }).bits ≡ demand_in st p c x
   unfolding demand_in
-  rate-of b = ap (λ (n : PerInterval). (rate_of (class_for b) n).bits) per-interval
+  rate-of c = ap (λ (n : PerInterval). (rate_of c n).bits) per-interval
 
 -- The numbers of those that wait.
 
@@ -150,10 +149,10 @@ lack-octets st id s l e =
 
 -- The total.
 
-pub total_a : (t : Totals) (n : ℕ) → patch 0 5 (be 5 n) (totals_octets t) ≡ totals_octets (with_total (class_for false) n t)
-unfolding totals_octets with_total class_for width
+pub total_a : (t : Totals) (n : ℕ) → patch 0 5 (be 5 n) (totals_octets t) ≡ totals_octets (with_total class_a n t)
+unfolding totals_octets with_total width
 total_a t n = put-field totals_widths (t.total_a ∷ t.total_b ∷ []) 0 n refl
 
-pub total_b : (t : Totals) (n : ℕ) → patch in_totals.total_b 6 (be 6 n) (totals_octets t) ≡ totals_octets (with_total (class_for true) n t)
-unfolding totals_octets with_total class_for width
+pub total_b : (t : Totals) (n : ℕ) → patch in_totals.total_b 6 (be 6 n) (totals_octets t) ≡ totals_octets (with_total class_b n t)
+unfolding totals_octets with_total width
 total_b t n = put-field totals_widths (t.total_a ∷ t.total_b ∷ []) 1 n refl

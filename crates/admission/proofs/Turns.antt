@@ -1,15 +1,13 @@
 -- The turns of streams, one after another, on a laid-out table.
-use Prim.Native.Nat.{ℕ, suc, ◌+◌, ◌-◌, ◌%◌, ◌≤◌, ◌<◌}
+use Prim.Native.Nat.{ℕ, ◌+◌, ◌-◌, ◌%◌, ◌≤◌, ◌<◌}
 use mathlib.Core.Path.{◌≡◌, refl, ap, ◌∙◌}
-use mathlib.Core.List.{List, [], ◌∷◌}
+use mathlib.Core.List.{List, []}
 use mathlib.Core.Bool.{true, false}
 use native.Mathlib.Omega.{arith}
-use native.Mathlib.Nat.{sub-zero}
-use lib.ListN.{length, get_or, set, take, length-set}
-use lib.Seq.{get_or-take, length-take-le}
+use native.Mathlib.Numerals.{add-one}
+use lib.ListN.{length, get_or, set, drop, length-set}
+use lib.Seq.{drop-cons, drop-length}
 use borrow.Author.Tests.{le-leb, lt-leb}
-use Rattle.octets.specs.Parts.{part}
-use Rattle.octets.proofs.Parts.{part-cons, part_none}
 use Rattle.model.specs.State.{Settings, Class, Stream, Bridge, result_at}
 use Rattle.model.specs.Registrations.{holding}
 use Rattle.model.specs.Table.{decode, encode}
@@ -21,7 +19,7 @@ use Rattle.table.specs.Places.{StandsOn}
 use Rattle.table.proofs.ByPlace.{stands, stream-fits, stream-same, stream-replaced-laid, stream-replaced-read}
 use Rattle.columns.specs.Stages.{lacking, with_result}
 use Rattle.admission.specs.Sharing.{demand_in, is_heard, used_after, after_turn, used_by, after_turns, turn_at, used_on, turns_on}
-use Rattle.admission.specs.Numbers.{Numbered, Turned}
+use Rattle.admission.specs.Numbers.{Numbered, Turned, TookTurns}
 use Rattle.admission.proofs.FitKept.{turn-fits, turn-id}
 
 -- One turn, by the demand d.
@@ -75,42 +73,32 @@ module _ {t : List ℕ} {k p : ℕ} (s : StandsOn t k p) (c : Class) (limit used
     pub turn-unheard : is_heard p x ≡ false → Turned p c limit k used (decode t) t used
     turn-unheard g = record { table = as_it_was; used = fits-unheard st p c limit used x d e h g; within = w }
 
--- Those of the first n numbers.
+-- Those of the numbers.
 
-module _ (t₀ numbers : List ℕ) (n p : ℕ) (c : Class) (limit : ℕ) where
+module _ (t₀ numbers : List ℕ) (p : ℕ) (c : Class) (limit : ℕ) where
   -- from number i on they are left, so much being used
   pub record Turning (t : List ℕ) (used i : ℕ) : Type 0 where
-    laid : Laid t
-    many : length (decode t).streams ≡ length (decode t₀).streams
-    total : used_on p c limit (part i (n - i) numbers) used (decode t) ≡ used_on p c limit (take n numbers) 0 (decode t₀)
-    whole : turns_on p c limit (part i (n - i) numbers) used (decode t) ≡ turns_on p c limit (take n numbers) 0 (decode t₀)
+    pub laid : Laid t
+    pub within : used ≤ limit
+    pub many : length (decode t).streams ≡ length (decode t₀).streams
+    pub total : used_on p c limit (drop i numbers) used (decode t) ≡ used_on p c limit numbers 0 (decode t₀)
+    pub whole : turns_on p c limit (drop i numbers) used (decode t) ≡ turns_on p c limit numbers 0 (decode t₀)
 
   pub turns-start : Laid t₀ → Turning t₀ 0 0
-  unfolding part
-  turns-start l = record { laid = l; many = refl; total = rw (sub-zero n); whole = rw (sub-zero n) }
+  turns-start l = record { laid = l; within = omega arith; many = refl; total = refl; whole = refl }
 
   module _ (t : List ℕ) (used i : ℕ) (w : Turning t used i) where
     -- the next
-    module _ (q : Numbered t₀ numbers n) (port : p < 8) (h : i < n) where
+    module _ (q : Numbered t₀ numbers) (port : p < 8) (h : i < length numbers) where
       abbrev k : ℕ
       k = get_or numbers i 0 % 64
 
       pub next-stands : StandsOn t k p
       next-stands =
-          let few = q.few in
-          let placed = all-at (λ m. m % 64 < length (decode t₀).streams) (take n numbers) q.placed i 0 (omega (arith, length-take-le n numbers few)) in
-          record { laid = w.laid; held = omega (arith, w.many, rw (get_or-take n numbers i 0 h) at placed); port = port }
+          let placed = all-at (λ m. m % 64 < length (decode t₀).streams) numbers q.placed i 0 h in
+          record { laid = w.laid; held = omega (arith, w.many, placed); port = port }
 
       module _ (u : List ℕ) (next : ℕ) (d : Turned p c limit k used (decode t) u next) where
-        abbrev m : ℕ
-        m = n - (i + 1)
-
-        numbers-cons : part i (n - i) numbers ≡ get_or numbers i 0 ∷ part (i + 1) m numbers
-        numbers-cons =
-            let few = q.few in
-            let e : n - i ≡ suc m = omega arith in
-            rw e (part-cons i m numbers (omega arith))
-
         turn-keeps : FitStream (after_turn (decode t).settings p c limit used (stream_at k (decode t)))
         turn-keeps = turn-fits (decode t).settings p c (laid-fits t w.laid).settings port (stream_at k (decode t)) (stream-fits (stands next-stands)) limit used
 
@@ -121,22 +109,21 @@ module _ (t₀ numbers : List ℕ) (n p : ℕ) (c : Class) (limit : ℕ) where
         unfolding holding used_by after_turns
         turns_next = record {
           laid = stream-replaced-laid (stands next-stands) _ turn-keeps (turn-id (decode t).settings p c limit used (stream_at k (decode t))) u d.table;
+          within = d.within;
           many = ap (λ (b : Bridge). length b.streams) after-turn ∙ length-set (decode t).streams k _ ∙ w.many;
-          total = rw (d.used, after-turn) (rw numbers-cons at w.total);
-          whole = rw (d.used, after-turn) (rw numbers-cons at w.whole);
+          total = rw (d.used, after-turn, add-one) (rw (drop-cons numbers i 0 h) at w.total);
+          whole = rw (d.used, after-turn, add-one) (rw (drop-cons numbers i 0 h) at w.whole);
         }
 
     -- the end
-    module _ (e : i ≡ n) where
-      none_left : part i (n - i) numbers ≡ []
-      none_left =
-          let z : n - i ≡ 0 = omega arith in
-          rw z (part_none i numbers)
+    module _ (e : i ≡ length numbers) where
+      none_left : drop i numbers ≡ []
+      none_left = rw (e, drop-length numbers)
 
-      pub turns-used : used ≡ used_on p c limit (take n numbers) 0 (decode t₀)
-      unfolding used_by
-      turns-used = rw none_left at w.total
-
-      pub turns-done : t ≡ encode (turns_on p c limit (take n numbers) 0 (decode t₀))
-      unfolding after_turns holding
-      turns-done = laid-is t w.laid ∙ ap encode (rw none_left at w.whole)
+      pub turns-done : TookTurns p c limit numbers (decode t₀) t used
+      unfolding used_by after_turns holding
+      turns-done = record {
+        used = rw none_left at w.total;
+        table = laid-is t w.laid ∙ ap encode (rw none_left at w.whole);
+        within = w.within;
+      }

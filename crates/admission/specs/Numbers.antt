@@ -1,23 +1,15 @@
 -- What the numbers by importance are asked to be, and what a turn by one of them leaves.
-use Rattle.std.specs.Prelude.{◌≡◌, List, ℕ, ◌%◌, ◌≤◌, ◌<◌, length, take}
+use Rattle.std.specs.Prelude.{◌≡◌, List, ℕ, ◌%◌, ◌≤◌, ◌<◌, length}
 use Rattle.model.specs.Lists.{All}
 use Rattle.model.specs.State.{Class, Bridge}
 use Rattle.model.specs.Table.{decode, encode}
 use Rattle.model.specs.Laid.{Laid}
-use Rattle.table.specs.Places.{StandsOn}
 use Rattle.admission.specs.Sharing.{used_next, turn_at, used_on, turns_on}
 
--- of the streams before stream k, n are numbered; there is room for all
-pub record Noting (t numbers : List ℕ) (k p n : ℕ) : Type 0 where
-  pub stands : StandsOn t k p
-  pub few : n ≤ k
-  pub room : length numbers ≡ 64
-
--- each of the first n numbers is that of a stream
-pub record Numbered (t numbers : List ℕ) (n : ℕ) : Type 0 where
+-- each of the numbers is that of a stream
+pub record Numbered (t numbers : List ℕ) : Type 0 where
   pub laid : Laid t
-  pub few : n ≤ length numbers
-  pub placed : All (λ m. m % 64 < length (decode t).streams) (take n numbers)
+  pub placed : All (λ m. m % 64 < length (decode t).streams) numbers
 
 -- after the turn of stream k of the bridge b, where so much was used before: the table, and what is used
 pub record Turned (p : ℕ) (c : Class) (limit k before : ℕ) (b : Bridge) (t : List ℕ) (next : ℕ) : Type 0 where

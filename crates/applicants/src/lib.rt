@@ -1,280 +1,209 @@
-// An Applicant in one octet of the table (docs/TABLE.md): each function is a row of Table 10-3, and its contract says that it gives the
-// table's entry.
+// The Applicant of a declaration: each of its methods is a row of Table 10-3, and its contract says that it gives the table's entry.
 #![tactic(auto)]
 
-ghost use Rattle.std.specs.Prelude.{◌≡◌, false, ◌≤◌};
+ghost use Rattle.std.specs.Prelude.{◌≡◌, eqb, false};
 ghost use Rattle.model.specs.Applicant as mrp;
 ghost use Rattle.model.specs.Applicant.{step, asks, event_at, opportunity};
+ghost use Rattle.model.specs.Numbers.{event_number};
+ghost use Rattle.applicants.specs.Octets.{octet, applicant};
 
-// No machine, VO or LO; then the states by their columns.
-pub const NONE: u8 = 0;
+use model::event::Event;
 
-pub const VP: u8 = 1;
+// Its state, by the standard's letters: very anxious, anxious, quiet, leaving; passive, new, active. The number is its octet in the table
+// (docs/TABLE.md).
+#[derive(Clone, Copy)]
+pub enum Applicant {
+    // no machine: VO or LO
+    None = 0,
+    Vp,
+    Vn,
+    An,
+    Aa,
+    Qa,
+    La,
+}
 
-pub const VN: u8 = 2;
+#[tactic(auto, unfolding(crate::specs::Octets::applicant))]
+impl From<u8> for Applicant {
+    ghost from_gives = { λ n a. a ≡ applicant n };
 
-pub const AN: u8 = 3;
-
-pub const AA: u8 = 4;
-
-pub const QA: u8 = 5;
-
-pub const LA: u8 = 6;
-
-// Written events.
-pub const NEW: u8 = 0;
-
-pub const JOIN_IN: u8 = 1;
-
-pub const IN: u8 = 2;
-
-pub const JOIN_MT: u8 = 3;
-
-pub const MT: u8 = 4;
-
-pub const LV: u8 = 5;
-
-// New!.
-pub fn renewed(state: u8) -> u8
-    ensures { (result ≡ step false mrp.new state) × (result ≤ 6) }
-{
-    match state {
-        0 => VN,
-        1 => VN,
-        2 => VN,
-        3 => AN,
-        4 => VN,
-        5 => VN,
-        6..=255 => VN,
+    fn from(octet: u8) -> Applicant {
+        match octet {
+            0 => Applicant::None,
+            1 => Applicant::Vp,
+            2 => Applicant::Vn,
+            3 => Applicant::An,
+            4 => Applicant::Aa,
+            5 => Applicant::Qa,
+            6..=255 => Applicant::La,
+        }
     }
 }
 
-// Join!.
-pub fn joined(state: u8) -> u8
-    ensures { (result ≡ step false mrp.join state) × (result ≤ 6) }
-{
-    match state {
-        0 => VP,
-        1 => VP,
-        2 => VN,
-        3 => AN,
-        4 => AA,
-        5 => QA,
-        6..=255 => AA,
+impl From<Applicant> for u8 {
+    ghost from_gives = { λ a n. n ≡ octet a };
+
+    fn from(state: Applicant) -> u8 {
+        state as u8
     }
 }
 
-// Lv!.
-pub fn left(state: u8) -> u8
-    ensures { (result ≡ step false mrp.lv state) × (result ≤ 6) }
-{
-    match state {
-        0 => NONE,
-        1 => NONE,
-        2 => LA,
-        3 => LA,
-        4 => LA,
-        5 => LA,
-        6..=255 => LA,
+#[tactic(auto, unfolding(model::proofs::ApplicantEntries::tables, model::specs::Applicant::opportunity))]
+impl Applicant {
+    // Whether there is no machine.
+    pub fn is_none(self) -> bool
+        ensures { result ≡ eqb (octet self) 0 }
+    {
+        matches!(self, Applicant::None)
     }
-}
 
-// rJoinIn!, rIn!.
-pub fn heard_in(state: u8) -> u8
-    ensures { (result ≡ step false mrp.r_join_in state) × (result ≡ step false mrp.r_in state) × (result ≤ 6) }
-{
-    match state {
-        0 => NONE,
-        1 => VP,
-        2 => VN,
-        3 => AN,
-        4 => QA,
-        5 => QA,
-        6..=255 => LA,
+    // New!.
+    pub fn renewed(self) -> Applicant
+        ensures { octet result ≡ step false mrp.new (octet self) }
+    {
+        match self {
+            Applicant::An => Applicant::An,
+            Applicant::None | Applicant::Vp | Applicant::Vn => Applicant::Vn,
+            Applicant::Aa | Applicant::Qa | Applicant::La => Applicant::Vn,
+        }
     }
-}
 
-// rJoinMt!, rMt!.
-pub fn heard_empty(state: u8) -> u8
-    ensures { (result ≡ step false mrp.r_join_mt state) × (result ≡ step false mrp.r_mt state) × (result ≤ 6) }
-{
-    match state {
-        0 => NONE,
-        1 => VP,
-        2 => VN,
-        3 => AN,
-        4 => AA,
-        5 => AA,
-        6..=255 => LA,
+    // Join!.
+    pub fn joined(self) -> Applicant
+        ensures { octet result ≡ step false mrp.join (octet self) }
+    {
+        match self {
+            Applicant::None | Applicant::Vp => Applicant::Vp,
+            Applicant::Vn => Applicant::Vn,
+            Applicant::An => Applicant::An,
+            Applicant::Aa | Applicant::La => Applicant::Aa,
+            Applicant::Qa => Applicant::Qa,
+        }
     }
-}
 
-// rLv!, rLA!.
-pub fn heard_leave(state: u8) -> u8
-    ensures { (result ≡ step false mrp.r_lv state) × (result ≡ step false mrp.r_la state) × (result ≤ 6) }
-{
-    match state {
-        0 => NONE,
-        1 => VP,
-        2 => VN,
-        3 => VN,
-        4 => VP,
-        5 => VP,
-        6..=255 => LA,
+    // Lv!.
+    pub fn left(self) -> Applicant
+        ensures { octet result ≡ step false mrp.lv (octet self) }
+    {
+        match self {
+            Applicant::None | Applicant::Vp => Applicant::None,
+            Applicant::Vn | Applicant::An | Applicant::Aa | Applicant::Qa | Applicant::La =>
+                Applicant::La,
+        }
     }
-}
 
-// After the second New: QA where the attribute is registered and not leaving, otherwise AA.
-fn after_new(registered: bool) -> u8
-    ensures { (result ≡ step registered mrp.tx 3) × (result ≤ 6) }
-{
-    if registered {
-        return QA;
+    // rJoinIn!, rIn!.
+    pub fn heard_in(self) -> Applicant
+        ensures join_in { octet result ≡ step false mrp.r_join_in (octet self) }
+        ensures in_ { octet result ≡ step false mrp.r_in (octet self) }
+    {
+        match self {
+            Applicant::None => Applicant::None,
+            Applicant::Vp => Applicant::Vp,
+            Applicant::Vn => Applicant::Vn,
+            Applicant::An => Applicant::An,
+            Applicant::Aa | Applicant::Qa => Applicant::Qa,
+            Applicant::La => Applicant::La,
+        }
     }
-    AA
-}
 
-// tx!.
-pub fn written(state: u8, registered: bool) -> u8
-    ensures { (result ≡ step registered mrp.tx state) × (result ≤ 6) }
-{
-    match state {
-        0 => NONE,
-        1 => AA,
-        2 => AN,
-        3 => after_new(registered),
-        4 => QA,
-        5 => QA,
-        6..=255 => NONE,
+    // rJoinMt!, rMt!.
+    pub fn heard_empty(self) -> Applicant
+        ensures join_empty { octet result ≡ step false mrp.r_join_mt (octet self) }
+        ensures empty { octet result ≡ step false mrp.r_mt (octet self) }
+    {
+        match self {
+            Applicant::None => Applicant::None,
+            Applicant::Vp => Applicant::Vp,
+            Applicant::Vn => Applicant::Vn,
+            Applicant::An => Applicant::An,
+            Applicant::Aa | Applicant::Qa => Applicant::Aa,
+            Applicant::La => Applicant::La,
+        }
     }
-}
 
-// txLA!.
-pub fn written_leaving_all(state: u8) -> u8
-    ensures { (result ≡ step false mrp.tx_la state) × (result ≤ 6) }
-{
-    match state {
-        0 => NONE,
-        1 => AA,
-        2 => AN,
-        3 => QA,
-        4 => QA,
-        5 => QA,
-        6..=255 => NONE,
+    // rLv!, rLA!.
+    pub fn heard_leave(self) -> Applicant
+        ensures leave { octet result ≡ step false mrp.r_lv (octet self) }
+        ensures leave_all { octet result ≡ step false mrp.r_la (octet self) }
+    {
+        match self {
+            Applicant::None => Applicant::None,
+            Applicant::Vp | Applicant::Aa | Applicant::Qa => Applicant::Vp,
+            Applicant::Vn | Applicant::An => Applicant::Vn,
+            Applicant::La => Applicant::La,
+        }
     }
-}
 
-// txLAF!.
-pub fn left_out(state: u8) -> u8
-    ensures { (result ≡ step false mrp.tx_laf state) × (result ≤ 6) }
-{
-    match state {
-        0 => NONE,
-        1 => VP,
-        2 => VN,
-        3 => VN,
-        4 => VP,
-        5 => VP,
-        6..=255 => NONE,
+    // tx!, or with LeaveAll txLA!; `registered` says that the attribute is registered and not leaving.
+    pub fn written(self, registered: bool, all: bool) -> Applicant
+        ensures { octet result ≡ step registered (opportunity all) (octet self) }
+    {
+        match self {
+            Applicant::None | Applicant::La => Applicant::None,
+            Applicant::Vn => Applicant::An,
+            Applicant::An if registered || all => Applicant::Qa,
+            Applicant::Vp | Applicant::An => Applicant::Aa,
+            Applicant::Aa | Applicant::Qa => Applicant::Qa,
+        }
     }
-}
 
-// Whether something is written at tx!: a message without brackets.
-pub fn asks_now(state: u8) -> bool
-    ensures { result ≡ asks mrp.tx state }
-{
-    match state {
-        0 => false,
-        1 => true,
-        2 => true,
-        3 => true,
-        4 => true,
-        5 => false,
-        6..=255 => true,
+    // txLAF!.
+    pub fn left_out(self) -> Applicant
+        ensures { octet result ≡ step false mrp.tx_laf (octet self) }
+    {
+        match self {
+            Applicant::None | Applicant::La => Applicant::None,
+            Applicant::Vp | Applicant::Aa | Applicant::Qa => Applicant::Vp,
+            Applicant::Vn | Applicant::An => Applicant::Vn,
+        }
     }
-}
 
-// The same at txLA!.
-pub fn asks_leaving_all(state: u8) -> bool
-    ensures { result ≡ asks mrp.tx_la state }
-{
-    match state {
-        0 => false,
-        1 => true,
-        2 => true,
-        3 => true,
-        4 => true,
-        5 => true,
-        6..=255 => false,
+    // Whether something is written at tx!, or with LeaveAll at txLA!: a message without brackets.
+    pub fn is_written(self, all: bool) -> bool
+        ensures { result ≡ asks (opportunity all) (octet self) }
+    {
+        match self {
+            Applicant::None => false,
+            Applicant::Vp | Applicant::Vn | Applicant::An | Applicant::Aa => true,
+            Applicant::Qa => all,
+            Applicant::La => !all,
+        }
     }
-}
 
-// Whether a write, with LeaveAll or without, has something to write for a state.
-pub fn is_written(state: u8, all: bool) -> bool
-    ensures { result ≡ asks (opportunity all) state }
-{
-    if all {
-        return asks_leaving_all(state);
+    // The event that tx! writes, or with LeaveAll txLA!.
+    pub fn event_written(self, registered: bool, all: bool) -> Event
+        ensures { event_number result ≡ event_at registered (opportunity all) (octet self) }
+    {
+        match self {
+            Applicant::Vn | Applicant::An => Event::New,
+            Applicant::Aa | Applicant::Qa => join_event(registered),
+            Applicant::Vp if !all => join_event(registered),
+            Applicant::La if !all => Event::Lv,
+            Applicant::None | Applicant::Vp | Applicant::La => in_event(registered),
+        }
     }
-    asks_now(state)
 }
 
 // sJ: JoinIn where the attribute is registered and not leaving, otherwise JoinMt.
-fn join_event(registered: bool) -> u8
-    ensures { (result ≡ mrp.message_number registered mrp.s_j) × (result ≤ 5) }
+#[tactic(auto, unfolding(model::specs::Applicant::message_number))]
+fn join_event(registered: bool) -> Event
+    ensures { event_number result ≡ mrp.message_number registered mrp.s_j }
 {
     if registered {
-        return JOIN_IN;
+        return Event::JoinIn;
     }
-    JOIN_MT
+    Event::JoinMt
 }
 
 // s: In or Mt likewise.
-fn in_event(registered: bool) -> u8
-    ensures { (result ≡ mrp.message_number registered mrp.s) × (result ≤ 5) }
+// Two functions, as the table has two signs: one of both would be handed both events at each call.
+#[tactic(auto, unfolding(model::specs::Applicant::message_number))]
+fn in_event(registered: bool) -> Event
+    ensures { event_number result ≡ mrp.message_number registered mrp.s }
 {
     if registered {
-        return IN;
+        return Event::In;
     }
-    MT
-}
-
-// The event that tx! writes.
-pub fn event_now(state: u8, registered: bool) -> u8
-    ensures { (result ≡ event_at registered mrp.tx state) × (result ≤ 5) }
-{
-    match state {
-        0 => in_event(registered),
-        1 => join_event(registered),
-        2 => NEW,
-        3 => NEW,
-        4 => join_event(registered),
-        5 => join_event(registered),
-        6..=255 => LV,
-    }
-}
-
-// The event that txLA! writes.
-pub fn event_leaving_all(state: u8, registered: bool) -> u8
-    ensures { (result ≡ event_at registered mrp.tx_la state) × (result ≤ 5) }
-{
-    match state {
-        0 => in_event(registered),
-        1 => in_event(registered),
-        2 => NEW,
-        3 => NEW,
-        4 => join_event(registered),
-        5 => join_event(registered),
-        6..=255 => in_event(registered),
-    }
-}
-
-// The event that a write, with LeaveAll or without, has for a state.
-pub fn event_written(state: u8, registered: bool, all: bool) -> u8
-    ensures { (result ≡ event_at registered (opportunity all) state) × (result ≤ 5) }
-{
-    if all {
-        return event_leaving_all(state, registered);
-    }
-    event_now(state, registered)
+    Event::Mt
 }

@@ -13,10 +13,13 @@ use Rattle.model.specs.Registrations.{ids}
 use Rattle.model.specs.Laid.{Ascending}
 use Rattle.model.specs.Why.{not_held, held_as, seek}
 use Rattle.model.specs.Calls.{refused_why, why_on}
+use Rattle.model.specs.Frames.{wrong_port}
+use Rattle.model.specs.Table.{formed, decode}
 use Rattle.model.proofs.Lists.{all_map}
 use Rattle.model.proofs.WhyRefusals.{why-refused}
 use Rattle.table.specs.Find.{found_at}
-use Rattle.table.specs.declared.Found.TheVariants.{At, Gap}
+use Rattle.std.specs.Prelude.{Result, Ok, Err}
+use Rattle.bridge.specs.Promises.{port_refusal}
 
 -- The stream by its StreamID, among ascending ones.
 
@@ -25,19 +28,19 @@ pub record HeldAt (id j k : ℕ) (s : List Stream) : Type 0 where
   pub within : k - j < length s
   pub is : seek id s ≡ held_as (get_or s (k - j) (fresh 0))
 
-at-is : (j k : ℕ) → At j ≡ At k → j ≡ k
+at-is : (j k : ℕ) → ◌≡◌ {A = Result ℕ ℕ} (Ok j) (Ok k) → j ≡ k
 at-is j k e = cc
 
-not-both : (j k : ℕ) → Gap j ≡ At k → ⊥
+not-both : (j k : ℕ) → ◌≡◌ {A = Result ℕ ℕ} (Err j) (Ok k) → ⊥
 not-both j k e = let z : ◌≡◌ {A = ℕ} 0 1 = cc in absurd (omega arith)
 
-pub found-held : (id : ℕ) (s : List Stream) (j k : ℕ) → found_at id j (ids s) ≡ At k → HeldAt id j k s
+pub found-held : (id : ℕ) (s : List Stream) (j k : ℕ) → found_at id j (ids s) ≡ Ok k → HeldAt id j k s
 unfolding found_at ids seek
 found-held id [] j k e = absurd (not-both j k e)
 found-held id (x ∷ s) j k e = go (ltb id x.id) (eqb id x.id) refl e (found-held id s (suc j) k)
   where
-    go : (a b : Bool) → eqb id x.id ≡ b → cond a (Gap j) (cond b (At j) (found_at id (suc j) (ids s))) ≡ At k
-        → (found_at id (suc j) (ids s) ≡ At k → HeldAt id (suc j) k s) → HeldAt id j k (x ∷ s)
+    go : (a b : Bool) → eqb id x.id ≡ b → cond a (Err j) (cond b (Ok j) (found_at id (suc j) (ids s))) ≡ Ok k
+        → (found_at id (suc j) (ids s) ≡ Ok k → HeldAt id (suc j) k s) → HeldAt id j k (x ∷ s)
     go true b f e ih = absurd (not-both j k e)
     go false true f e ih =
         let q : j ≡ k = at-is j k e in
@@ -53,13 +56,13 @@ unfolding ids seek
 none-lower id [] a = refl
 none-lower id (x ∷ s) a = rw (ne_eqb x.id id (λ q. omega (arith, q, a.0))) (none-lower id s a.1)
 
-pub not_found : (id : ℕ) (s : List Stream) → Ascending (ids s) → (j k : ℕ) → found_at id j (ids s) ≡ Gap k → seek id s ≡ not_held
+pub not_found : (id : ℕ) (s : List Stream) → Ascending (ids s) → (j k : ℕ) → found_at id j (ids s) ≡ Err k → seek id s ≡ not_held
 unfolding found_at ids seek
 not_found id [] r j k e = refl
 not_found id (x ∷ s) r j k e = go (ltb id x.id) (eqb id x.id) refl refl e (not_found id s r.1 (suc j) k)
   where
-    go : (a b : Bool) → ltb id x.id ≡ a → eqb id x.id ≡ b → cond a (Gap j) (cond b (At j) (found_at id (suc j) (ids s))) ≡ Gap k
-        → (found_at id (suc j) (ids s) ≡ Gap k → seek id s ≡ not_held) → cond (eqb x.id id) (held_as x) (seek id s) ≡ not_held
+    go : (a b : Bool) → ltb id x.id ≡ a → eqb id x.id ≡ b → cond a (Err j) (cond b (Ok j) (found_at id (suc j) (ids s))) ≡ Err k
+        → (found_at id (suc j) (ids s) ≡ Err k → seek id s ≡ not_held) → cond (eqb x.id id) (held_as x) (seek id s) ≡ not_held
     go true b l f e ih =
         let low = ltb-true id x.id l in
         rw (ne_eqb x.id id (λ q. omega (arith, q, low)))
@@ -70,3 +73,13 @@ not_found id (x ∷ s) r j k e = go (ltb id x.id) (eqb id x.id) refl refl e (not
 -- A refusal, by its number.
 pub refuses : (t : List ℕ) (id p : ℕ) (buffer : List ℕ) (n : ℕ) → (n ≡ 0 → ⊥) → (why_on t id p buffer).number ≡ n → refused_why n buffer ≡ why_on t id p buffer
 refuses t id p buffer n z e = sym (why-refused t id p buffer (λ q. z (sym e ∙ q)) ∙ ap (λ (m : ℕ). refused_why m buffer) e)
+
+-- A port that is refused, before the stream is sought.
+pub why-of-port : (t : List ℕ) (id p : ℕ) (buffer : List ℕ) (n : ℕ) → n ≡ port_refusal t p → (n ≡ 0 → ⊥) → refused_why n buffer ≡ why_on t id p buffer
+unfolding why_on port_refusal
+why-of-port t id p buffer n e z = go (formed t) (wrong_port (decode t).settings p) refl refl
+  where
+    go : (h w : Bool) → formed t ≡ h → wrong_port (decode t).settings p ≡ w → refused_why n buffer ≡ why_on t id p buffer
+    go true true h w = let q : n ≡ 1 = e ∙ rw (h, w) in rw (h, w, q)
+    go true false h w = absurd (z (e ∙ rw (h, w)))
+    go false w h v = let q : n ≡ 12 = e ∙ rw h in rw (h, q)

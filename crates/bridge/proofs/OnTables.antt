@@ -1,23 +1,24 @@
 -- Receive and advance on a table, way by way: what they answer, and what they leave of it.
 use mathlib.Core.Path.{◌≡◌, refl, sym, ◌∙◌, ap}
 use mathlib.Core.List.{List}
-use mathlib.Core.Bool.{Bool, true, false, cond}
+use mathlib.Core.Bool.{Bool, true, false}
 use Prim.Native.Nat.{ℕ, ◌-◌, ◌≤◌, ◌<◌}
 use native.Mathlib.Omega.{arith}
 use lib.ListN.{length}
-use lib.Dec.{ltb, eqb}
-use borrow.Author.Tests.{lt-ltb, le-ltb, le-leb, lt-leb, eq-eqb, ne_eqb, eqb-false}
+use borrow.Author.Tests.{lt-ltb, le-ltb, le-leb, lt-leb, eq-eqb, ne_eqb}
 use Rattle.model.specs.Lists.{Octets}
 use Rattle.model.specs.State.{Settings, Bridge}
 use Rattle.model.specs.Registrations.{Answer, Act, apply_all, apply_owns, apply_senders, holding, owning, sending, received}
 use Rattle.model.specs.Frames.{Vector, Walk, fault, found, walk, walked, frame_acts, wrong_port, reading}
 use Rattle.model.specs.Settling.{settle, advance}
 use Rattle.model.specs.Table.{formed, encode, decode}
+use Rattle.model.specs.Numbers.{refusal_number}
+use Rattle.model.specs.declared.refusal.Refusal.{Refusal}
+use Rattle.model.specs.declared.refusal.Refusal.TheVariants as refusal
 use Rattle.model.specs.Calls.{Call, on_table, leaves, receive, receive_on, advance_on}
 use Rattle.model.proofs.Tables.{valid-decode}
 use Rattle.model.proofs.Fits.{formed-laid}
 use Rattle.model.proofs.ReceiveKeepsForm.{right-port}
-use Rattle.model.proofs.FoundVectors.{or_left}
 use Rattle.table.specs.Places.{PortIn}
 use Rattle.msrpdu.specs.Reader.{number_of}
 use Rattle.bridge.specs.Promises.{port_refusal}
@@ -58,15 +59,6 @@ pub record Passed (t : List ℕ) (p : ℕ) : Type 0 where
 
 -- What comes before a frame, as each call with one tests it: n is its number.
 module _ (t : List ℕ) (p : ℕ) where
-  pub port-passed : (n : ℕ) → n ≡ port_refusal t p → n ≡ 0 → Octets t → Passed t p
-  unfolding port_refusal
-  port-passed n e z o = let v = go (formed t) (wrong_port (decode t).settings p) e in record { octets = o; formed = v.0; port = v.1 }
-    where
-      go : (f w : Bool) → n ≡ cond f (cond w 1 0) 12 → (f ≡ true) × (w ≡ false)
-      go true true q = absurd (omega arith)
-      go true false q = (refl, refl)
-      go false w q = absurd (omega arith)
-
   pub port-in : Passed t p → PortIn t (p - 1)
   port-in v =
       record { laid = formed-laid t v.octets v.formed; port = omega (arith, right-port (decode t).settings p v.port, (valid-decode t v.octets v.formed).settings.eight_ports) }
@@ -130,6 +122,20 @@ pub port-right : (st : Settings) (p : ℕ) → (p ≡ 0 → ⊥) → p ≤ lengt
 unfolding wrong_port
 port-right st p z l = rw (ne_eqb p 0 z, le-ltb _ _ l)
 
-pub port-some : (st : Settings) (p : ℕ) → wrong_port st p ≡ false → 1 ≤ p
-unfolding wrong_port
-port-some st p e = let z : p ≡ 0 → ⊥ = eqb-false p 0 (or_left (eqb p 0) (ltb (length st.ports) p) e) in omega arith
+-- no refusal has the number of an accepted call
+pub not-accepted : (r : Refusal) → refusal_number r ≡ 0 → ⊥
+not-accepted refusal.Port e = absurd (omega arith)
+not-accepted refusal.PduLength e = absurd (omega arith)
+not-accepted refusal.PastEnd e = absurd (omega arith)
+not-accepted refusal.AttributeType e = absurd (omega arith)
+not-accepted refusal.AttributeLength e = absurd (omega arith)
+not-accepted refusal.Event e = absurd (omega arith)
+not-accepted refusal.Value e = absurd (omega arith)
+not-accepted refusal.Streams e = absurd (omega arith)
+not-accepted refusal.Time e = absurd (omega arith)
+not-accepted refusal.Buffer e = absurd (omega arith)
+not-accepted refusal.Settings e = absurd (omega arith)
+not-accepted refusal.Table e = absurd (omega arith)
+not-accepted refusal.Place e = absurd (omega arith)
+not-accepted refusal.Addresses e = absurd (omega arith)
+not-accepted refusal.Stream e = absurd (omega arith)

@@ -21,20 +21,12 @@ use Rattle.declarations.specs.Passes.{run_on, pdu_on, PduWritten}
 use Rattle.moving.specs.declared.Span.{Span}
 use Rattle.moving.specs.Moves.{ListMoved}
 use Rattle.moving.proofs.AfterWrite.{SpanOf, moves-written, left-written}
-use Rattle.bridge.specs.Promises.{port_refusal, Writes, RefusedWith}
+use Rattle.bridge.specs.Promises.{port_refusal, Writes}
 
 -- what a refused write answers, with the buffer and the table as they were
-module _ (t : List ℕ) (p place : ℕ) (buffer : List ℕ) (n number long next : ℕ)
-    (r : RefusedWith n number long next) where
-  pub refused : write_on t p place buffer ≡ refused_write n t buffer → Writes t p place buffer number long next buffer t
-  unfolding refused_write
-  refused e = record {
-    number_is = rw e r.number_is;
-    length_is = rw e r.length_is;
-    next_is = rw e r.next_is;
-    buffer_is = rw e;
-    table_is = rw e;
-  }
+pub refused : (t : List ℕ) (p place : ℕ) (buffer : List ℕ) (n : ℕ) → write_on t p place buffer ≡ refused_write n t buffer → Writes t p place buffer n 0 0 buffer t
+unfolding refused_write
+refused t p place buffer n e = record { number_is = rw e; length_is = rw e; next_is = rw e; buffer_is = rw e; table_is = rw e }
 
 module _ (t : List ℕ) (p place : ℕ) (buffer : List ℕ) where
   -- before the buffer is looked at
@@ -78,6 +70,15 @@ module _ (t : List ℕ) (p place : ℕ) (buffer : List ℕ) where
           }
 
 module _ (t : List ℕ) (p place : ℕ) where
+  pub report-refused : (n : ℕ) → n ≡ port_refusal t p → (n ≡ 0 → ⊥) → report_on t p place ≡ refused_report n
+  unfolding report_on port_refusal
+  report-refused n e z = go (formed t) (wrong_port (decode t).settings p) refl refl
+    where
+      go : (h w : Bool) → formed t ≡ h → wrong_port (decode t).settings p ≡ w → report_on t p place ≡ refused_report n
+      go true true h w = let q : n ≡ 1 = e ∙ rw (h, w) in rw (h, w, q)
+      go true false h w = absurd (z (e ∙ rw (h, w)))
+      go false w h v = let q : n ≡ 12 = e ∙ rw h in rw (h, q)
+
   pub report-unformed : formed t ≡ false → report_on t p place ≡ refused_report 12
   unfolding report_on
   report-unformed h = rw h

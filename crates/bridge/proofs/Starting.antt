@@ -35,7 +35,7 @@ settings-short s f = omega (arith, formed-length s f, eight_ports s (formed-rule
 
 -- the settings put in front of a table of zeros of any length
 pub settings-put : (n : ℕ) (s t z : List ℕ) → length t ≡ n → length s ≤ n → z ≡ patch 0 n (zeros n) t →
-    s ++ drop (length s - 0) (drop 0 z) ≡ s ++ zeros (n - length s)
+    s ++ drop (length s) z ≡ s ++ zeros (n - length s)
 unfolding patch
 settings-put n s t z h l e =
     let m : ℕ = length s in
@@ -43,5 +43,4 @@ settings-put n s t z h l e =
     let zs : z ≡ zeros n = e ∙ ap (λ (r : List ℕ). zeros n ++ r) all ∙ append-nil (zeros n) in
     let rest : n ≡ m + (n - m) = omega arith in
     let split : zeros n ≡ zeros m ++ zeros (n - m) = ap zeros rest ∙ zeros-add m (n - m) in
-    let from : m - 0 ≡ m = omega arith in
-    ap (λ (r : List ℕ). s ++ r) (ap (λ (k : ℕ). drop k z) from ∙ ap (drop m) (zs ∙ split) ∙ drop_at (zeros m) (zeros (n - m)) m (length-zeros m))
+    ap (λ (r : List ℕ). s ++ r) (ap (drop m) (zs ∙ split) ∙ drop_at (zeros m) (zeros (n - m)) m (length-zeros m))

@@ -3,7 +3,7 @@
 // of specs/Promises.
 #![tactic(auto)]
 
-ghost use Rattle.std.specs.Prelude.{◌≡◌, ◌<◌, length};
+ghost use Rattle.std.specs.Prelude.{◌≡◌, ◌<◌, ◌≤◌, length, MatchResult};
 ghost use Rattle.model.specs.Layout.{sender_size, slots};
 ghost use Rattle.model.specs.Lists.{tabulate};
 ghost use Rattle.model.specs.State.{port_at, supports};
@@ -11,19 +11,22 @@ ghost use Rattle.model.specs.Registrations.{sending};
 ghost use Rattle.model.specs.Sending.{sender_octets, to_sender};
 ghost use Rattle.model.specs.Table.{encode, decode};
 ghost use Rattle.model.specs.Laid.{LaidSender, Laid};
+ghost use Rattle.model.specs.Numbers.{refusal_number, answer_number};
 ghost use Rattle.table.specs.Places.{PortIn};
 ghost use Rattle.table.specs.Updates.{with_sender};
-ghost use Rattle.streams.specs.Answers.{class_shown};
+ghost use Rattle.streams.specs.Answers.{named};
 ghost use Rattle.bridge.specs.Joining.{joined_slot, joined_if, joined_own, joined_at};
-ghost use Rattle.reports.specs.Shown.{shown};
-ghost use Rattle.bridge.specs.Promises.{Starts, port_refusal, Receives, ReceivesMmrp, Advances, Writes, RefusedWith, Reports, Explains};
-ghost use Rattle.why.specs.Shown.{why_shown};
+ghost use Rattle.reports.specs.Shown.{answered};
+ghost use Rattle.bridge.specs.Promises.{Starts, port_refusal, PortFound, Receives, ReceivesMmrp, Advances, length_of, next_of, Writes, Reports, Explains};
+ghost use Rattle.why.specs.Shown.{why_answered};
 
-use applicants::VP;
-use model::{pdu, refusal};
+use applicants::Applicant;
+use model::pdu;
+use model::refusal::Refusal;
 use moving::Span;
-use streams::ClassRead;
-use table::Found;
+use reports::Reported;
+use streams::Class;
+use why::Why;
 
 // Octets of a table.
 pub const TABLE: usize = table::LENGTH;
@@ -38,21 +41,18 @@ pub const PORT_SETTINGS: usize = table::PORT;
 // Octets that all that why may list takes.
 pub const LIST: usize = 63 * 16;
 
-// The number of a call that is not refused.
-pub const ACCEPTED: u8 = refusal::ACCEPTED;
-
 // Join! of the Domain value in a slot, by what a port sends by itself: VP.
 fn join_slot(sender: &mut [u8], slot: usize)
     requires { LaidSender sender.old × (length sender.old ≡ sender_size) × (slot < slots) }
     ensures { sender.new ≡ sender_octets (joined_slot slot (to_sender sender.old)) }
 {
-    sender[slot] = VP;
+    sender[slot] = Applicant::Vp as u8;
 }
 
 // The same at place p, where the port supports the value's class.
-fn join_class(table: &mut [u8], p: usize, class: ClassRead, slot: usize)
+fn join_class(table: &mut [u8], p: usize, class: Class, slot: usize)
     requires { PortIn table.old p × (slot < slots) }
-    ensures { table.new ≡ encode (with_sender p (joined_if (supports (port_at (decode table.old).settings p) (class_shown class)) slot)
+    ensures { table.new ≡ encode (with_sender p (joined_if (supports (port_at (decode table.old).settings p) (named class)) slot)
         (decode table.old)) }
 {
     if columns::supports(table::port_at(table, p), class) {
@@ -68,8 +68,8 @@ fn join_domains(table: &mut [u8], p: usize)
 {
     let a = table::priority_a(table) as usize;
     let b = table::priority_b(table) as usize;
-    join_class(table, p, ClassRead::B, b);
-    join_class(table, p, ClassRead::A, 8 + a);
+    join_class(table, p, Class::B, b);
+    join_class(table, p, Class::A, 8 + a);
 }
 
 // The same at each place.
@@ -78,142 +78,109 @@ fn join_all(table: &mut [u8])
     ensures { table.new ≡ encode (sending (decode table.old)
         (tabulate 8 0 (joined_at (decode table.old).settings (decode table.old).senders))) }
 {
-    let mut place: usize = 0;
-    while place < 8 {
+    for place in 0..8 {
         join_domains(table, place);
-        place += 1;
     }
 }
 
 // Starts a bridge with these settings: no streams, clock 0, the Domain values of each port declared. It looks at the table's length only.
-pub fn start(table: &mut [u8], settings: &[u8]) -> u8
-    ensures { Starts table.old settings.now result table.new }
+pub fn start(table: &mut [u8], settings: &[u8]) -> Result<(), Refusal>
+    ensures { Starts table.old settings.now (answer_number result) table.new }
 {
     if table.len() != TABLE {
-        return refusal::TABLE;
+        return Err(Refusal::Table);
     }
-    let formed = form::settings_formed(settings);
-    if formed {
-        octets::clear(table, 0, TABLE);
-        let n = settings.len();
-        octets::copy(settings, &mut table[0..n]);
-        join_all(table);
-        return refusal::ACCEPTED;
+    if !form::settings_formed(settings) {
+        return Err(Refusal::Settings);
     }
-    refusal::SETTINGS
+    octets::clear(table, 0, TABLE);
+    table[..settings.len()].copy_from_slice(settings);
+    join_all(table);
+    Ok(())
 }
 
-// The number of what comes before all that a frame says: of a table that breaks a form rule, or a port that the bridge has not.
-fn port_refusal(table: &[u8], port: u32) -> u8
-    ensures { result ≡ port_refusal table.now port }
+// The place of a port, numbered from 1, of a table that keeps the form rules: what each call with a port tests first.
+fn port_place(table: &[u8], port: u32) -> Result<usize, Refusal>
+    ensures { MatchResult result (PortFound table.now port) (λ refusal. refusal_number refusal ≡ port_refusal table.now port) }
 {
-    let formed = form::is_formed(table);
-    if formed {
-        let ports = table::ports(table);
-        if port == 0 {
-            return refusal::PORT;
-        }
-        if ports < port as usize {
-            return refusal::PORT;
-        }
-        return refusal::ACCEPTED;
+    if !form::is_formed(table) {
+        return Err(Refusal::Table);
     }
-    refusal::TABLE
+    if port == 0 || table::ports(table) < port as usize {
+        return Err(Refusal::Port);
+    }
+    Ok(port as usize - 1)
 }
 
 // Takes a PDU that arrived on a port, numbered from 1: refused by number, or all of its events applied.
-pub fn receive(table: &mut [u8], port: u32, pdu: &[u8]) -> u8
-    ensures { Receives table.old port pdu.now result table.new }
+pub fn receive(table: &mut [u8], port: u32, pdu: &[u8]) -> Result<(), Refusal>
+    ensures { Receives table.old port pdu.now (answer_number result) table.new }
 {
-    let refused = port_refusal(table, port);
-    if refused != refusal::ACCEPTED {
-        return refused;
+    let p = port_place(table, port)?;
+    msrpdu::check(pdu)?;
+    if !registrar::receive_frame(table, p, pdu) {
+        return Err(Refusal::Streams);
     }
-    let number = msrpdu::check(pdu);
-    if number != refusal::ACCEPTED {
-        return number;
-    }
-    let fits = registrar::receive_frame(table, port as usize - 1, pdu);
-    if fits {
-        return refusal::ACCEPTED;
-    }
-    refusal::STREAMS
+    Ok(())
 }
 
 // Takes an MMRP PDU that arrived on a port, numbered from 1: refused by number, or all of its events applied to the addresses that
 // the port holds.
-pub fn receive_mmrp(table: &mut [u8], port: u32, pdu: &[u8]) -> u8
-    ensures { ReceivesMmrp table.old port pdu.now result table.new }
+pub fn receive_mmrp(table: &mut [u8], port: u32, pdu: &[u8]) -> Result<(), Refusal>
+    ensures { ReceivesMmrp table.old port pdu.now (answer_number result) table.new }
 {
-    let refused = port_refusal(table, port);
-    if refused != refusal::ACCEPTED {
-        return refused;
-    }
-    let number = mmrpdu::check(pdu);
-    if number != refusal::ACCEPTED {
-        return number;
-    }
+    let p = port_place(table, port)?;
+    mmrpdu::check(pdu)?;
     let clock = table::clock(table);
-    let a = table::own_in(table, port as usize - 1);
-    let fits = mmrp::receive_frame(&mut table[a..a + table::OWN], clock, pdu);
-    if fits {
-        return refusal::ACCEPTED;
+    let a = table::own_in(table, p);
+    if !mmrp::receive_frame(&mut table[a..a + table::OWN], clock, pdu) {
+        return Err(Refusal::Addresses);
     }
-    refusal::ADDRESSES
+    Ok(())
 }
 
 // Sets the clock, removes what has left, and decides every column, entry, Listener and total.
-pub fn advance(table: &mut [u8], time: u32) -> u8
-    ensures { Advances table.old time result table.new }
+pub fn advance(table: &mut [u8], time: u32) -> Result<(), Refusal>
+    ensures { Advances table.old time (answer_number result) table.new }
 {
-    let formed = form::is_formed(table);
-    if formed {
-        let clock = table::clock(table);
-        if time < clock {
-            return refusal::TIME;
-        }
-        settling::settle(table, time);
-        return refusal::ACCEPTED;
+    if !form::is_formed(table) {
+        return Err(Refusal::Table);
     }
-    refusal::TABLE
+    if time < table::clock(table) {
+        return Err(Refusal::Time);
+    }
+    settling::settle(table, time);
+    Ok(())
 }
 
-// What write answers.
-#[derive(Clone, Copy)]
+// Whether a buffer has so many octets at least.
+fn long_enough(buffer: &[u8], least: usize) -> Result<(), Refusal>
+    ensures { MatchResult result (λ _. least ≤ length buffer.now)
+        (λ refusal. (refusal_number refusal ≡ 10) × (length buffer.now < least)) }
+{
+    if buffer.len() < least {
+        return Err(Refusal::Buffer);
+    }
+    Ok(())
+}
+
+// What an accepted write answers: the PDU's length, and the next place.
+#[derive(Clone, Copy, Default)]
 pub struct Wrote {
-    pub number: u8,
     pub length: usize,
     pub next: usize,
 }
 
-// A write that is refused.
-fn refused_write(number: u8) -> Wrote
-    ensures { RefusedWith number result.number result.length result.next }
-{
-    Wrote {
-        number,
-        length: 0,
-        next: 0,
-    }
-}
-
 // Writes a PDU of a port's declarations, from a place on, and moves the machines of what it says. Octets of the buffer past its length
 // stay.
-pub fn write(table: &mut [u8], port: u32, place: u32, buffer: &mut [u8]) -> Wrote
-    ensures { Writes table.old port place buffer.old result.number result.length result.next buffer.new table.new }
+pub fn write(table: &mut [u8], port: u32, place: u32, buffer: &mut [u8]) -> Result<Wrote, Refusal>
+    ensures { Writes table.old port place buffer.old (answer_number result) (length_of result) (next_of result) buffer.new table.new }
 {
-    let refused = port_refusal(table, port);
-    if refused != refusal::ACCEPTED {
-        return refused_write(refused);
-    }
-    if buffer.len() < pdu::LONGEST {
-        return refused_write(refusal::BUFFER);
-    }
-    let p = port as usize - 1;
+    let p = port_place(table, port)?;
+    long_enough(buffer, pdu::LONGEST)?;
     let from = place as usize;
-    let count = declarations::count_declarations(table, p);
-    if count < from {
-        return refused_write(refusal::PLACE);
+    if declarations::count_declarations(table, p) < from {
+        return Err(Refusal::Place);
     }
     let pdu = declarations::write_pdu(table, p, from, buffer);
     let span = Span {
@@ -222,56 +189,32 @@ pub fn write(table: &mut [u8], port: u32, place: u32, buffer: &mut [u8]) -> Wrot
         all: pdu.all,
     };
     let next = moving::move_list(table, p, span);
-    Wrote {
-        number: refusal::ACCEPTED,
+    Ok(Wrote {
         length: pdu.length,
         next,
-    }
+    })
 }
 
 // Reports the streams held, a port's class totals and limits, and the stream at a place as the last advance settled it there.
-pub fn report(table: &[u8], port: u32, place: u32) -> reports::Reported
-    ensures { Reports table.now port place (shown result) }
+pub fn report(table: &[u8], port: u32, place: u32) -> Result<Reported, Refusal>
+    ensures { Reports table.now port place (answered result) }
 {
-    let formed = form::is_formed(table);
-    if formed {
-        let ports = table::ports(table);
-        if port == 0 {
-            return reports::refused_report(refusal::PORT);
-        }
-        if ports < port as usize {
-            return reports::refused_report(refusal::PORT);
-        }
-        let count = table::count(table);
-        if count < place as usize {
-            return reports::refused_report(refusal::PLACE);
-        }
-        return reports::report_at(table, port as usize - 1, place as usize);
+    let p = port_place(table, port)?;
+    if table::count(table) < place as usize {
+        return Err(Refusal::Place);
     }
-    reports::refused_report(refusal::TABLE)
+    Ok(reports::report_at(table, p, place as usize))
 }
 
 // Tells why a stream has the column that an advance to the held clock would give it on a port; what more important streams reserve
 // stands in the buffer where step h decides. Octets of the buffer past the list stay.
-pub fn why(table: &[u8], id: u64, port: u32, buffer: &mut [u8]) -> why::Why
-    ensures { Explains table.now id port buffer.old (why_shown result buffer.new) }
+pub fn why(table: &[u8], id: u64, port: u32, buffer: &mut [u8]) -> Result<Why, Refusal>
+    ensures { Explains table.now id port buffer.old (why_answered result buffer.new) }
 {
-    let formed = form::is_formed(table);
-    if formed {
-        let ports = table::ports(table);
-        if port == 0 {
-            return why::refused_why(refusal::PORT);
-        }
-        if ports < port as usize {
-            return why::refused_why(refusal::PORT);
-        }
-        let Found::At(k) = table::find(table, id) else {
-            return why::refused_why(refusal::STREAM);
-        };
-        if buffer.len() < LIST {
-            return why::refused_why(refusal::BUFFER);
-        }
-        return why::explain(table, k, port as usize - 1, buffer);
-    }
-    why::refused_why(refusal::TABLE)
+    let p = port_place(table, port)?;
+    let Ok(k) = table::find(table, id) else {
+        return Err(Refusal::Stream);
+    };
+    long_enough(buffer, LIST)?;
+    Ok(why::explain(table, k, p, buffer))
 }

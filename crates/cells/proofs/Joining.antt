@@ -2,7 +2,7 @@
 use mathlib.Core.Path.{◌≡◌, refl, sym, ap, ◌∙◌}
 use mathlib.Core.List.{List, [], ◌∷◌}
 use mathlib.Core.Bool.{Bool, true, false, cond, ◌&&◌, false≢true}
-use Prim.Native.Nat.{ℕ, zero, suc, ◌+◌, ◌*◌, ◌/◌, ◌%◌, ◌^◌, ◌≤◌, ◌<◌}
+use Prim.Native.Nat.{ℕ, ◌+◌, ◌*◌, ◌/◌, ◌%◌, ◌^◌, ◌≤◌, ◌<◌}
 use native.Mathlib.Omega.{arith}
 use lib.ListN.{length, get_or, set, drop, length-set}
 use lib.Dec.{eqb}
@@ -13,7 +13,7 @@ use Rattle.octets.specs.Pick.{pick}
 use Rattle.octets.specs.Fields.{fields, packed, Fit, width}
 use Rattle.octets.proofs.Parts.{length-patch}
 use Rattle.octets.proofs.Fields.{fit_at, be-be_at, packed-fields, be_at-fits, be_at-one, be_at-add, get-field, get-octet, put-field, put-run, clear-run}
-use Rattle.model.specs.FrameLayout.{advertise_length, failed_length, in_first_value, talker_widths}
+use Rattle.model.specs.FrameLayout.{advertise_length, in_first_value, talker_widths}
 use Rattle.model.specs.Layout.{cell_index, cell_fields, cell_widths, in_cell, leaving_size}
 use Rattle.model.specs.State.{stays, Fixed, TalkerType, talker_advertise, talker_failed, Varying, Registration, Talker, no_talker, talker, Listener, no_listener, listener, no_fixed}
 use Rattle.model.specs.Registrations.{same_fixed, first_join, same_join, other_join, join_talker, does, listen}
@@ -23,7 +23,10 @@ use Rattle.model.specs.Table.{leaving_number, since_number, talker_type_number, 
 use Rattle.model.specs.Laid.{FitCell, LaidCell}
 use Rattle.model.specs.Lists.{bit}
 use Rattle.model.proofs.Cells.{ready-forth}
-use Rattle.cells.specs.Acts.{kind_at, talk_of}
+use Rattle.model.specs.Attributes.{talker_kind_of}
+use Rattle.model.specs.declared.attribute.TalkerAttribute.{TalkerAttribute}
+use Rattle.model.specs.declared.attribute.TalkerAttribute.TheVariants as attribute
+use Rattle.cells.specs.Acts.{talk_of}
 use Rattle.cells.specs.Steps.{heard, marked, failing, varied, fixed, same, joined}
 use Rattle.cells.proofs.Leaving.{laid, both, talker-kind}
 
@@ -39,13 +42,13 @@ module _ (vs : List ℕ) (size : length vs ≡ cell_fields) where
   unfolding marked width part
   marked-numbers = rw (put-field cell_widths vs cell_index.changed 1 size) (clear-run cell_widths (set vs cell_index.changed 1) cell_index.talker_leaves 2 (simp length-set size) (omega arith))
 
-  failing-numbers : (first : List ℕ) → failing 2 first (packed cell_widths vs) ≡ packed cell_widths (set (set vs cell_index.bridge (be_at 8 first in_first_value.bridge)) cell_index.code (get_or first in_first_value.code 0))
+  failing-numbers : (first : List ℕ) → failing attribute.Failed first (packed cell_widths vs) ≡ packed cell_widths (set (set vs cell_index.bridge (be_at 8 first in_first_value.bridge)) cell_index.code (get_or first in_first_value.code 0))
   unfolding failing width pick
   failing-numbers first =
       rw (put-field cell_widths vs cell_index.bridge (be_at 8 first in_first_value.bridge) size)
       (put-field cell_widths (set vs cell_index.bridge (be_at 8 first in_first_value.bridge)) cell_index.code (get_or first in_first_value.code 0) (simp length-set size))
 
-  advertise-numbers : (first : List ℕ) → failing 1 first (packed cell_widths vs) ≡ packed cell_widths (patch cell_index.bridge 2 (zeros 2) vs)
+  advertise-numbers : (first : List ℕ) → failing attribute.Advertise first (packed cell_widths vs) ≡ packed cell_widths (patch cell_index.bridge 2 (zeros 2) vs)
   unfolding failing width part pick
   advertise-numbers first = clear-run cell_widths vs cell_index.bridge 2 size (omega arith)
 
@@ -144,31 +147,29 @@ failed-again no_talker h latency bridge code = refl
 failed-again (talker r) h latency bridge code = refl
 
 -- FirstValue's numbers, and what varies in them
-first_numbers : ℕ → List ℕ → List ℕ
-first_numbers k first = fields (first_widths (registers (kind_at k))) 0 first
+first_numbers : TalkerAttribute → List ℕ → List ℕ
+first_numbers a first = fields (first_widths (registers (talker_kind_of a))) 0 first
 
-varying : ℕ → List ℕ → Varying
-varying k first = record { type = talker_type_value (kind_at k) (first_numbers k first); latency = get_or (first_numbers k first) 6 0 }
+varying : TalkerAttribute → List ℕ → Varying
+varying a first = record { type = talker_type_value (talker_kind_of a) (first_numbers a first); latency = get_or (first_numbers a first) 6 0 }
 
-varies : (k : ℕ) → 1 ≤ k → k ≤ 2 → (first : List ℕ) (t : Talker) (h : Listener)
-    → varied k first (cell_octets (both t h)) ≡ cell_octets (both (talker (same_join (varying k first) (held t))) h)
-unfolding cell_octets varied varying first_numbers kind_at first_widths fields talker_type_value begins
-varies zero low high first t h = absurd (omega arith)
-varies (suc zero) low high first t h =
+varies : (a : TalkerAttribute) (first : List ℕ) (t : Talker) (h : Listener)
+    → varied a first (cell_octets (both t h)) ≡ cell_octets (both (talker (same_join (varying a first) (held t))) h)
+unfolding cell_octets varied varying first_numbers first_widths fields talker_type_value begins
+varies attribute.Advertise first t h =
     let vs = cell_numbers (both t h) in
     let z = cell-size t h in
     let n = be_at 4 first in_first_value.latency in
-    ap (failing 1 first) (varied-numbers vs z 1 n)
+    ap (failing attribute.Advertise first) (varied-numbers vs z 1 n)
     ∙ advertise-numbers (begins t h 1 n) (varied-size vs z 1 n) first
     ∙ ap (packed cell_widths) (advertise-again t h n)
-varies (suc (suc zero)) low high first t h =
+varies attribute.Failed first t h =
     let vs = cell_numbers (both t h) in
     let z = cell-size t h in
     let n = be_at 4 first in_first_value.latency in
-    ap (failing 2 first) (varied-numbers vs z 2 n)
+    ap (failing attribute.Failed first) (varied-numbers vs z 2 n)
     ∙ failing-numbers (begins t h 2 n) (varied-size vs z 2 n) first
     ∙ ap (packed cell_widths) (failed-again t h n (be_at 8 first in_first_value.bridge) (get_or first in_first_value.code 0) ∙ rw (be_at-one first in_first_value.code))
-varies (suc (suc (suc k))) low high first t h = absurd (omega arith)
 
 -- Where nothing is held, what is fixed is taken too.
 
@@ -316,25 +317,17 @@ module _ (first : List ℕ) (octets : (i : ℕ) → get_or first i 0 < 256) (n :
 
 -- A Talker's join, of an AttributeType.
 
-first-widths : (k : ℕ) → 1 ≤ k → k ≤ 2
-    → first_widths (registers (kind_at k)) ≡ talker_widths (drop 7 (first_widths (registers (kind_at k))))
-unfolding first_widths kind_at
-first-widths zero low high = absurd (omega arith)
-first-widths (suc zero) low high = refl
-first-widths (suc (suc zero)) low high = refl
-first-widths (suc (suc (suc k))) low high = absurd (omega arith)
+first-widths : (a : TalkerAttribute)
+    → first_widths (registers (talker_kind_of a)) ≡ talker_widths (drop 7 (first_widths (registers (talker_kind_of a))))
+unfolding first_widths
+first-widths attribute.Advertise = refl
+first-widths attribute.Failed = refl
 
--- the octets of a FirstValue: 25 at least, and 34 of a Talker Failed
-pub first-long : (k : ℕ) → 1 ≤ k → k ≤ 2 → advertise_length ≤ first_length (registers (kind_at k))
-unfolding first_length kind_at
-first-long zero low high = absurd (omega arith)
-first-long (suc zero) low high = omega arith
-first-long (suc (suc zero)) low high = omega arith
-first-long (suc (suc (suc k))) low high = absurd (omega arith)
-
-pub first-failed : (k : ℕ) → k ≡ 2 → first_length (registers (kind_at k)) ≡ failed_length
-unfolding first_length kind_at
-first-failed k e = rw e
+-- the octets of a FirstValue: 25 at least
+pub first_long : (a : TalkerAttribute) → advertise_length ≤ first_length (registers (talker_kind_of a))
+unfolding first_length
+first_long attribute.Advertise = omega arith
+first_long attribute.Failed = omega arith
 
 -- a held Talker's kind is not 0
 some-kind : (h : TalkerType) → eqb (talker_type_number h) 0 ≡ false
@@ -342,58 +335,61 @@ unfolding talker_type_number
 some-kind talker_advertise = refl
 some-kind (talker_failed b c) = refl
 
-module _ (k : ℕ) (low : 1 ≤ k) (high : k ≤ 2) (first : List ℕ) (long : advertise_length ≤ length first) (octets : (i : ℕ) → get_or first i 0 < 256) (n : ℕ) where
+module _ (a : TalkerAttribute) (first : List ℕ) (long : advertise_length ≤ length first) (octets : (i : ℕ) → get_or first i 0 < 256) (n : ℕ) where
   more : List ℕ
-  more = drop 7 (first_widths (registers (kind_at k)))
+  more = drop 7 (first_widths (registers (talker_kind_of a)))
 
   joining : Fixed
-  joining = fixed_value (first_numbers k first) n
+  joining = fixed_value (first_numbers a first) n
 
   takes-fixed : (v : Varying) (h : Listener) → be_at 4 first in_first_value.latency ≡ v.latency
       → fixed first n (cell_octets (both (talker (same_join v (held no_talker))) h)) ≡ cell_octets (both (talker (first_join joining v)) h)
   unfolding joining first_numbers talker_numbers_of more
-  takes-fixed v h e = rw (first-widths k low high) (takes first long octets n more v h e)
+  takes-fixed v h e = rw (first-widths a) (takes first long octets n more v h e)
 
-  latency-read : be_at 4 first in_first_value.latency ≡ (varying k first).latency
+  latency-read : be_at 4 first in_first_value.latency ≡ (varying a first).latency
   unfolding varying first_numbers fields
-  latency-read = rw (first-widths k low high)
+  latency-read = rw (first-widths a)
 
   is_same : (t : Talker) (h : Listener) → FitCell (both t h) → same first n (cell_octets (both t h)) ≡ same_fixed joining (held t).fixed
   unfolding joining first_numbers new more
-  is_same t h fit = rw (first-widths k low high) (same-fixed first octets n more (cell_octets (both t h)) (held t).fixed (has t h fit))
+  is_same t h fit = rw (first-widths a) (same-fixed first octets n more (cell_octets (both t h)) (held t).fixed (has t h fit))
 
   joins-to : (t : Talker) (h : Listener) → FitCell (both t h)
-      → joined k first n (cell_octets (both t h)) ≡ cell_octets (both (join_talker joining (varying k first) t) h)
+      → joined a first n (cell_octets (both t h)) ≡ cell_octets (both (join_talker joining (varying a first) t) h)
   unfolding joined join_talker held cell_numbers talker_numbers pick
   joins-to no_talker h fit =
-      rw (talker-kind (both no_talker h) fit, varies k low high first no_talker h)
-      (takes-fixed (varying k first) h latency-read)
+      rw (talker-kind (both no_talker h) fit, varies a first no_talker h)
+      (takes-fixed (varying a first) h latency-read)
   joins-to (talker r) h fit =
-      rw (talker-kind (both (talker r) h) fit, some-kind r.varying.type, is_same (talker r) h fit, varies k low high first (talker r) h, marks r h)
+      rw (talker-kind (both (talker r) h) fit, some-kind r.varying.type, is_same (talker r) h fit, varies a first (talker r) h, marks r h)
       (go (same_fixed joining r.fixed))
     where
-      go : (t : Bool) → pick t (cell_octets (both (talker (same_join (varying k first) r)) h)) (cell_octets (both (talker (other_join r)) h))
-          ≡ cell_octets (both (talker (cond t (same_join (varying k first) r) (other_join r))) h)
+      go : (t : Bool) → pick t (cell_octets (both (talker (same_join (varying a first) r)) h)) (cell_octets (both (talker (other_join r)) h))
+          ≡ cell_octets (both (talker (cond t (same_join (varying a first) r) (other_join r))) h)
       go true = refl
       go false = refl
 
-  pub joins : (clock : ℕ) (s : List ℕ) → LaidCell s → joined k first n s ≡ cell_octets (does clock (talk_of (kind_at k) first n) (to_cell s))
+  pub joins : (clock : ℕ) (s : List ℕ) → LaidCell s → joined a first n s ≡ cell_octets (does clock (talk_of (talker_kind_of a) first n) (to_cell s))
   unfolding does talk_of joining varying first_numbers
   joins clock =
-      laid (λ s c. joined k first n s ≡ cell_octets (both (join_talker joining (varying k first) c.talks) c.hears))
+      laid (λ s c. joined a first n s ≡ cell_octets (both (join_talker joining (varying a first) c.talks) c.hears))
       (λ c. joins-to c.talks c.hears)
 
 -- the three ways of a Talker's join
-module _ (k : ℕ) (first : List ℕ) (n : ℕ) (s : List ℕ) where
-  pub joined-new : get_or s 0 0 ≡ 0 → fixed first n (varied k first s) ≡ joined k first n s
+module _ (a : TalkerAttribute) (first : List ℕ) (n : ℕ) (s : List ℕ) where
+  pub joined-new : get_or s 0 0 ≡ 0 → fixed first n (varied a first s) ≡ joined a first n s
   unfolding joined pick
   joined-new p = rw (eq-eqb (get_or s 0 0) 0 p)
 
   module _ (p : get_or s 0 0 ≡ 0 → ⊥) where
-    pub joined_same : same first n s ≡ true → varied k first s ≡ joined k first n s
+    pub joined_same : same first n s ≡ true → varied a first s ≡ joined a first n s
     unfolding joined pick
     joined_same q = rw (ne_eqb (get_or s 0 0) 0 p, q)
 
-    pub joined-changed : same first n s ≡ false → marked s ≡ joined k first n s
+    pub joined-changed : same first n s ≡ false → marked s ≡ joined a first n s
     unfolding joined pick
     joined-changed q = rw (ne_eqb (get_or s 0 0) 0 p, q)
+
+-- for the search at `join_talker`
+pub ruleset joining_ways = (joined-new, joined_same, joined-changed, joins, first_long)

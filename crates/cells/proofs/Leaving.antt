@@ -2,7 +2,7 @@
 use mathlib.Core.Path.{◌≡◌, refl, sym, ap, ◌∙◌, subst}
 use mathlib.Core.List.{List, ◌++◌}
 use mathlib.Core.Bool.{Bool, true, false, cond}
-use Prim.Native.Nat.{ℕ, zero, suc, ◌+◌, ◌≤◌, ◌<◌}
+use Prim.Native.Nat.{ℕ, suc, ◌+◌, ◌≤◌, ◌<◌}
 use native.Mathlib.Omega.{arith}
 use lib.ListN.{length, get_or, set, take, length-set}
 use lib.Dec.{eqb, leb}
@@ -21,7 +21,10 @@ use Rattle.model.specs.Table.{leaving_number, since_number, talker_type_number, 
 use Rattle.model.specs.Laid.{FitCell, LaidCell}
 use Rattle.model.proofs.Cells.{ready-number}
 use Rattle.model.proofs.Fits.{laid-cell-is, laid-cell-fits}
-use Rattle.cells.specs.Acts.{kind_at}
+use Rattle.model.specs.Attributes.{talker_kind_of, talker_number}
+use Rattle.model.proofs.Attributes.{talkers_octets_of}
+use Rattle.model.specs.declared.attribute.TalkerAttribute.{TalkerAttribute}
+use Rattle.model.specs.declared.attribute.TalkerAttribute.TheVariants as attribute
 use Rattle.cells.proofs.Keeps.{expire-first-fits}
 use Rattle.cells.specs.Steps.{begun, lapsed}
 
@@ -147,21 +150,22 @@ abbrev pub both : Talker → Listener → Cell
 both t h = record { talks = t; hears = h }
 
 -- a held Talker's kind is that octet of its AttributeType
-as-kind : (k : ℕ) → 1 ≤ k → k ≤ 2 → (h : TalkerType) → (k ≡ talker_type_number h → talks_as (kind_at k) h ≡ true) × ((k ≡ talker_type_number h → ⊥) → talks_as (kind_at k) h ≡ false)
-unfolding kind_at talks_as talker_type_number
-as-kind zero p q h = absurd (omega arith)
-as-kind (suc zero) p q talker_advertise = (λ e. refl, λ n. absurd (n refl))
-as-kind (suc zero) p q (talker_failed b d) = (λ e. absurd (omega arith), λ n. refl)
-as-kind (suc (suc zero)) p q talker_advertise = (λ e. absurd (omega arith), λ n. refl)
-as-kind (suc (suc zero)) p q (talker_failed b d) = (λ e. refl, λ n. absurd (n refl))
-as-kind (suc (suc (suc k))) p q h = absurd (omega arith)
+as-kind : (a : TalkerAttribute) (h : TalkerType)
+    → (talker_number a ≡ talker_type_number h → talks_as (talker_kind_of a) h ≡ true) × ((talker_number a ≡ talker_type_number h → ⊥) → talks_as (talker_kind_of a) h ≡ false)
+unfolding talks_as talker_type_number
+as-kind attribute.Advertise talker_advertise = (λ e. refl, λ n. absurd (n refl))
+as-kind attribute.Advertise (talker_failed b d) = (λ e. absurd (omega arith), λ n. refl)
+as-kind attribute.Failed talker_advertise = (λ e. absurd (omega arith), λ n. refl)
+as-kind attribute.Failed (talker_failed b d) = (λ e. refl, λ n. absurd (n refl))
 
-no-hearing : (k : ℕ) → 1 ≤ k → k ≤ 2 → hears_as (kind_at k) ≡ false
-unfolding kind_at hears_as
-no-hearing zero p q = absurd (omega arith)
-no-hearing (suc zero) p q = refl
-no-hearing (suc (suc zero)) p q = refl
-no-hearing (suc (suc (suc k))) p q = absurd (omega arith)
+some-number : (a : TalkerAttribute) → 1 ≤ talker_number a
+some-number attribute.Advertise = omega arith
+some-number attribute.Failed = omega arith
+
+no-hearing : (a : TalkerAttribute) → hears_as (talker_kind_of a) ≡ false
+unfolding hears_as
+no-hearing attribute.Advertise = refl
+no-hearing attribute.Failed = refl
 
 module _ (clock : ℕ) where
   hears-begins : (t : Talker) (h : Listener) → FitCell (both t h) → 0 < get_or (cell_octets (both t h)) in_cell.listener 0
@@ -177,21 +181,21 @@ module _ (clock : ℕ) where
   hears-none t no_listener fit p = rw (talker-stays clock t)
   hears-none t (listener r l) fit p = absurd (omega (arith, listener-kind (both t (listener r l)) fit, some-listener t r l))
 
-  module _ (k : ℕ) (low : 1 ≤ k) (high : k ≤ 2) where
-    talks-begins : (t : Talker) (h : Listener) → FitCell (both t h) → get_or (cell_octets (both t h)) 0 0 ≡ k
-        → begun in_cell.talker_leaves clock (cell_octets (both t h)) ≡ cell_octets (quit clock (kind_at k) (both t h))
+  module _ (a : TalkerAttribute) where
+    talks-begins : (t : Talker) (h : Listener) → FitCell (both t h) → get_or (cell_octets (both t h)) 0 0 ≡ talker_number a
+        → begun in_cell.talker_leaves clock (cell_octets (both t h)) ≡ cell_octets (quit clock (talker_kind_of a) (both t h))
     unfolding cell_octets cell_numbers quit quit_talker with_leaving talker_numbers
-    talks-begins no_talker h fit p = absurd (omega (arith, talker-kind (both no_talker h) fit))
+    talks-begins no_talker h fit p = absurd (omega (arith, talker-kind (both no_talker h) fit, some-number a))
     talks-begins (talker r) h fit p =
-        rw (listener-stays clock (kind_at k) (no-hearing k low high) h, (as-kind k low high r.varying.type).0 (sym p ∙ talker-kind (both (talker r) h) fit))
+        rw (listener-stays clock (talker_kind_of a) (no-hearing a) h, (as-kind a r.varying.type).0 (sym p ∙ talker-kind (both (talker r) h) fit))
         (talker-begun clock (both (talker r) h) fit ∙ ap (packed cell_widths) (talker-numbers clock r r.leaving h))
 
-    talks-other : (t : Talker) (h : Listener) → FitCell (both t h) → (get_or (cell_octets (both t h)) 0 0 ≡ k → ⊥)
-        → cell_octets (both t h) ≡ cell_octets (quit clock (kind_at k) (both t h))
+    talks-other : (t : Talker) (h : Listener) → FitCell (both t h) → (get_or (cell_octets (both t h)) 0 0 ≡ talker_number a → ⊥)
+        → cell_octets (both t h) ≡ cell_octets (quit clock (talker_kind_of a) (both t h))
     unfolding cell_octets cell_numbers quit quit_talker with_leaving talker_numbers
-    talks-other no_talker h fit p = rw (listener-stays clock (kind_at k) (no-hearing k low high) h)
+    talks-other no_talker h fit p = rw (listener-stays clock (talker_kind_of a) (no-hearing a) h)
     talks-other (talker r) h fit p =
-        rw (listener-stays clock (kind_at k) (no-hearing k low high) h, (as-kind k low high r.varying.type).1 (λ e. p (talker-kind (both (talker r) h) fit ∙ sym e)))
+        rw (listener-stays clock (talker_kind_of a) (no-hearing a) h, (as-kind a r.varying.type).1 (λ e. p (talker-kind (both (talker r) h) fit ∙ sym e)))
 
 -- of octets that are laid out as a cell, at the octets that the code looks at
 module _ (s : List ℕ) (l : LaidCell s) (clock : ℕ) where
@@ -203,14 +207,17 @@ module _ (s : List ℕ) (l : LaidCell s) (clock : ℕ) where
   quits-no-listener =
       laid (λ s c. get_or s in_cell.listener 0 ≡ 0 → s ≡ cell_octets (quit clock listeners c)) (λ c. hears-none clock c.talks c.hears) s l
 
-  module _ (k : ℕ) (low : 1 ≤ k) (high : k ≤ 2) where
-    pub quits-talker : get_or s 0 0 ≡ k → begun in_cell.talker_leaves clock s ≡ cell_octets (quit clock (kind_at k) (to_cell s))
+  module _ (a : TalkerAttribute) where
+    pub quits-talker : get_or s 0 0 ≡ talker_number a → begun in_cell.talker_leaves clock s ≡ cell_octets (quit clock (talker_kind_of a) (to_cell s))
     quits-talker =
-        laid (λ s c. get_or s 0 0 ≡ k → begun in_cell.talker_leaves clock s ≡ cell_octets (quit clock (kind_at k) c)) (λ c. talks-begins clock k low high c.talks c.hears) s l
+        laid (λ s c. get_or s 0 0 ≡ talker_number a → begun in_cell.talker_leaves clock s ≡ cell_octets (quit clock (talker_kind_of a) c)) (λ c. talks-begins clock a c.talks c.hears) s l
 
-    pub quits-no-talker : (get_or s 0 0 ≡ k → ⊥) → s ≡ cell_octets (quit clock (kind_at k) (to_cell s))
+    pub quits-no-talker : (get_or s 0 0 ≡ talker_number a → ⊥) → s ≡ cell_octets (quit clock (talker_kind_of a) (to_cell s))
     quits-no-talker =
-        laid (λ s c. (get_or s 0 0 ≡ k → ⊥) → s ≡ cell_octets (quit clock (kind_at k) c)) (λ c. talks-other clock k low high c.talks c.hears) s l
+        laid (λ s c. (get_or s 0 0 ≡ talker_number a → ⊥) → s ≡ cell_octets (quit clock (talker_kind_of a) c)) (λ c. talks-other clock a c.talks c.hears) s l
+
+-- for the search at `quit`
+pub ruleset quits = (quits-listener, quits-no-listener, quits-talker, quits-no-talker, talkers_octets_of)
 
 -- Expiry.
 
@@ -276,8 +283,8 @@ module _ (st : Settings) (now : ℕ) where
       (expires-listener (expire_talker st now c.talks) c.hears (expire-first-fits st now c fit))
 
 -- first the Talker, then the Listener
-pub expires-both : (st : Settings) (leave now : ℕ) → st.leave_time ≡ leave → (s y z : List ℕ) → LaidCell s
+pub expires_both : (st : Settings) (leave now : ℕ) → st.leave_time ≡ leave → (s y z : List ℕ) → LaidCell s
     → y ≡ lapsed 0 in_cell.listener in_cell.talker_leaves leave now s → z ≡ lapsed in_cell.listener listener_size in_cell.listener_leaves leave now y → z ≡ cell_octets (expire_cell st now (to_cell s))
-expires-both st leave now e s y z l p q =
+expires_both st leave now e s y z l p q =
     rw (q, p, ← e)
     (laid (λ s c. lapsed in_cell.listener listener_size in_cell.listener_leaves st.leave_time now (lapsed 0 in_cell.listener in_cell.talker_leaves st.leave_time now s) ≡ cell_octets (expire_cell st now c)) (expires st now) s l)

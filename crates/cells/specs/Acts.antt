@@ -1,15 +1,8 @@
 -- What a frame's octets ask of a cell.
-use Rattle.std.specs.Prelude.{List, ℕ, zero, suc, get_or}
+use Rattle.std.specs.Prelude.{List, ℕ, get_or}
 use Rattle.octets.specs.Fields.{fields}
-use Rattle.model.specs.Registrations.{Kind, advertises, faileds, listeners, Act, talk}
+use Rattle.model.specs.Registrations.{Kind, Act, talk}
 use Rattle.model.specs.Frames.{registers, first_widths, id_value, fixed_value, talker_type_value}
-
--- Table 35-1: what the AttributeType octet of a registration says
-unfoldable pub kind_at : ℕ → Kind
-kind_at zero = listeners
-kind_at (suc zero) = advertises
-kind_at (suc (suc zero)) = faileds
-kind_at (suc (suc (suc k))) = listeners
 
 -- a Talker's join: value n of a FirstValue
 unfoldable pub talk_of : Kind → List ℕ → ℕ → Act

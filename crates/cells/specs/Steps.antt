@@ -5,6 +5,9 @@ use Rattle.octets.specs.Parts.{patch, zeros}
 use Rattle.octets.specs.Pick.{pick}
 use Rattle.model.specs.FrameLayout.{in_first_value}
 use Rattle.model.specs.Layout.{in_cell, failure_size, leaving_size}
+use Rattle.model.specs.Attributes.{talker_number}
+use Rattle.model.specs.declared.attribute.TalkerAttribute.{TalkerAttribute}
+use Rattle.model.specs.declared.attribute.TalkerAttribute.TheVariants.{Advertise, Failed}
 
 -- leaving begun at the clock, unless it was: the mark at a place, and the time behind it
 unfoldable pub begun : ℕ → ℕ → List ℕ → List ℕ
@@ -25,15 +28,14 @@ unfoldable pub marked : List ℕ → List ℕ
 marked s = patch in_cell.talker_leaves leaving_size (zeros leaving_size) (patch in_cell.changed 1 (be 1 1) s)
 
 -- the failure of a FirstValue, or none
-unfoldable pub failing : ℕ → List ℕ → List ℕ → List ℕ
-failing kind first s =
-    pick (eqb kind 2) (patch in_cell.code 1 (be 1 (get_or first in_first_value.code 0)) (patch in_cell.bridge 8 (be 8 (be_at 8 first in_first_value.bridge)) s))
-    (patch in_cell.bridge failure_size (zeros failure_size) s)
+unfoldable pub failing : TalkerAttribute → List ℕ → List ℕ → List ℕ
+failing Failed first s = patch in_cell.code 1 (be 1 (get_or first in_first_value.code 0)) (patch in_cell.bridge 8 (be 8 (be_at 8 first in_first_value.bridge)) s)
+failing Advertise first s = patch in_cell.bridge failure_size (zeros failure_size) s
 
 -- a Talker that stays, without the changed mark; type, latency and failure of a FirstValue
-unfoldable pub varied : ℕ → List ℕ → List ℕ → List ℕ
-varied kind first s =
-    failing kind first (patch in_cell.latency 4 (be 4 (be_at 4 first in_first_value.latency)) (patch in_cell.changed (1 + leaving_size) (zeros (1 + leaving_size)) (patch 0 1 (be 1 kind) s)))
+unfoldable pub varied : TalkerAttribute → List ℕ → List ℕ → List ℕ
+varied a first s =
+    failing a first (patch in_cell.latency 4 (be 4 (be_at 4 first in_first_value.latency)) (patch in_cell.changed (1 + leaving_size) (zeros (1 + leaving_size)) (patch 0 1 (be 1 (talker_number a)) s)))
 
 -- destination, VLAN, TSpec, priority and rank of value n of a FirstValue, and its latency as the first
 unfoldable pub fixed : List ℕ → ℕ → List ℕ → List ℕ
@@ -50,7 +52,7 @@ same first n s =
     false
 
 -- a Talker's join
-unfoldable pub joined : ℕ → List ℕ → ℕ → List ℕ → List ℕ
-joined kind first n s =
-    pick (eqb (get_or s 0 0) 0) (fixed first n (varied kind first s))
-    (pick (same first n s) (varied kind first s) (marked s))
+unfoldable pub joined : TalkerAttribute → List ℕ → ℕ → List ℕ → List ℕ
+joined a first n s =
+    pick (eqb (get_or s 0 0) 0) (fixed first n (varied a first s))
+    (pick (same first n s) (varied a first s) (marked s))

@@ -4,15 +4,15 @@ use mathlib.Core.List.{List, ◌++◌}
 use mathlib.Core.Bool.{Bool, true, false}
 use Prim.Native.Nat.{ℕ, ◌+◌, ◌-◌, ◌^◌, ◌≤◌, ◌<◌}
 use native.Mathlib.Omega.{arith}
-use lib.ListN.{length, take, drop}
+use lib.ListN.{length, get_or, take, drop}
 use lib.Dec.{ltb}
 use lib.Seq.{get_or-set_other}
 use borrow.Author.Tests.{ltb-true, ltb-false}
-use Rattle.octets.specs.Be.{be_at}
+use Rattle.std.specs.Prelude.{Option}
 use Rattle.octets.specs.Parts.{part, patch}
 use Rattle.octets.proofs.Frame.{part-part}
 use Rattle.model.specs.Layout.{cell_place, cell_size, in_cell, fixed_size, result_place, result_size, settled_of}
-use Rattle.model.specs.State.{Fixed, Cell, Result, Stream, Column, cell_at, result_at, stream_at, fresh}
+use Rattle.model.specs.State.{Declared, Fixed, Cell, Result, Stream, Column, cell_at, result_at, stream_at, fresh}
 use Rattle.model.specs.Settling.{Scene, scene_of, Source, source, source_of, fixed_of, is_inbound, latency_out}
 use Rattle.model.specs.Table.{to_declared, to_result, result_octets, encode, decode}
 use Rattle.model.specs.Registrations.{holding}
@@ -25,6 +25,8 @@ use Rattle.table.proofs.ByPlace.{stands, stands_on, stream-fits, stream-same, st
 use Rattle.table.proofs.EachStream.{partly, partly-scene, partly-stands, partly-laid, partly-many, partly-before, one_more, all_done}
 use Rattle.streams.specs.Answers.{talker_port, source_in}
 use Rattle.streams.proofs.Sources.{source-at}
+use Rattle.model.proofs.SettingsOctets.{octet-field}
+use Rattle.fanin.specs.declared.CommonFailure.{CommonFailure}
 use Rattle.fanin.specs.Sets.{set_to}
 use Rattle.fanin.specs.Places.{SettledTo}
 use Rattle.columns.specs.Stages.{shown_by, shown_as, early_column, early_at, early, early_all}
@@ -40,16 +42,16 @@ module _ {table : List ℕ} {k p : ℕ} (s : StandsOn table k p) where
   abbrev x : Stream
   x = stream_at k (decode table)
 
-  pub result-written : (now latency listener a : ℕ) (column : Column) (here y : List ℕ) → a ≡ result_place k p
+  pub result-written : (now latency a : ℕ) (heard : Declared) (column : Column) (here y : List ℕ) → a ≡ result_place k p
       → column ≡ early_column (scene_of (decode table)) p x → latency ≡ latency_out (decode table).settings p x
-      → ReadsCell here (cell_at x p) → listener ≡ be_at 1 here in_cell.listener
-      → y ≡ result_octets (shown_by column latency (to_declared listener) now (to_result (take (a + result_size - a) (drop a table))))
+      → ReadsCell here (cell_at x p) → heard ≡ to_declared (get_or here in_cell.listener 0)
+      → y ≡ result_octets (shown_by column latency heard now (to_result (take (a + result_size - a) (drop a table))))
       → take a table ++ (y ++ drop (a + result_size - a) (drop a table)) ≡ encode (changed_at k (early_one p now) (decode table))
   unfolding early_one
-  result-written now latency listener a column here y e f g c h q =
-      let shown : shown_by column latency (to_declared listener) now (result_at x p) ≡ early_at (scene_of (decode table)) now x p =
-      unfold early_at shown_as in rw (f, g, h, ← registered-read here, c.is) in
-      changed-result-at s a e (shown_by column latency (to_declared listener) now) y q ∙ ap (λ (r : Result). encode (with_result k p r (decode table))) shown
+  result-written now latency a heard column here y e f g c h q =
+      let shown : shown_by column latency heard now (result_at x p) ≡ early_at (scene_of (decode table)) now x p =
+      unfold early_at shown_as in rw (f, g, h, ← octet-field here in_cell.listener, ← registered-read here, c.is) in
+      changed-result-at s a e (shown_by column latency heard now) y q ∙ ap (λ (r : Result). encode (with_result k p r (decode table))) shown
 
 -- the fixed values that a stream has registered at place t, taken over as its settled values
 pub values-copied : {table : List ℕ} {k t : ℕ} (s : StandsOn table k t) → cell_place k t + cell_size ≤ length table → (a : ℕ) → a ≡ cell_place k t + in_cell.fixed
@@ -76,7 +78,7 @@ module _ {table : List ℕ} {k : ℕ} (s : Stands table k) (x : Stream) (w : Fit
     is = i.is ∙ ap (λ (l : List Cell). talker_port (source 0 l)) (sym (ap (λ (y : Stream). y.cells) (stream-replaced-at s x w same u e) ∙ cells));
   }
 
-  pub failure-kept : {t common : ℕ} → FailureAt table k t common → FailureAt u k t common
+  pub failure-kept : {t : ℕ} {common : Option CommonFailure} → FailureAt table k t common → FailureAt u k t common
   unfolding source_of
   failure-kept i = record {
     talker = talker-kept i.talker;
@@ -166,7 +168,7 @@ module _ {table : List ℕ} {k t : ℕ} (i : TalkerAt table k t) (now : ℕ) (so
     ports-fit-here =
         decided-fits (scene_of (decode table)) now (x₀ i) (laid-fits table i.stands.laid).settings.bridge_id soon (stream-fits (stands i.stands)) n few
 
-    pub ports-failure : {common : ℕ} → FailureAt table k t common → FailureAt s k t common
+    pub ports-failure : {common : Option CommonFailure} → FailureAt table k t common → FailureAt s k t common
     unfolding early_to
     ports-failure j = failure-kept (stands i.stands) xₙ ports-fit-here refl refl s e j
 

@@ -1,17 +1,26 @@
 -- Entries and their ages, by the numbers that the code tests.
-use mathlib.Core.Path.{◌≡◌, refl, sym, ◌∙◌}
+use mathlib.Core.Path.{◌≡◌, refl, sym}
 use mathlib.Core.List.{List}
 use mathlib.Core.Bool.{Bool, true, false, cond}
-use Prim.Native.Nat.{ℕ, zero, suc, ◌/◌, ◌≤◌, ◌<◌}
+use Prim.Native.Nat.{ℕ, zero, suc, ◌+◌, ◌/◌}
 use native.Mathlib.Omega.{arith}
 use lib.ListN.{get_or}
 use lib.Dec.{eqb, leb}
-use borrow.Author.Tests.{eq-eqb, ne_eqb, le-leb, lt-leb}
+use borrow.Author.Tests.{eq-eqb, ne_eqb, le-leb}
+use Rattle.std.specs.Prelude.{Some}
+use denote.Enum.Declared.{tag_of}
+use Rattle.columns.specs.declared.Entry as code
+use Rattle.columns.specs.declared.Entry.TheVariants.{Filter, Forward}
+use Rattle.columns.specs.contracts.Entry as entry_contracts
+use Rattle.columns.specs.Answers.{entry_shown, talker_number}
+use Rattle.model.specs.declared.attribute.TalkerAttribute.{TalkerAttribute}
+use Rattle.model.specs.declared.attribute.TalkerAttribute.TheVariants as talker
+use Rattle.model.specs.contracts.attribute.TalkerAttribute as talker_contracts
 use Rattle.octets.specs.Be.{be_at}
 use Rattle.octets.specs.Fields.{fields}
 use Rattle.model.specs.Layout.{in_result, in_cell}
-use Rattle.model.specs.State.{Leaving, Talker, Ready, ready, ready_failed, no_listener, listener, none, advertise, failed, no_entry, filters, forwards, nothing, tells}
-use Rattle.model.specs.Settling.{is_ready, registered, entry_of, age_of, age_kept}
+use Rattle.model.specs.State.{Leaving, Talker, Ready, ready, ready_failed, no_listener, listener, no_entry, filters, forwards, nothing, tells}
+use Rattle.model.specs.Settling.{is_ready, registered, age_of}
 use Rattle.model.specs.Table.{to_leaving, to_declared, to_entry, entry_number, to_cell, cell_from, listener_from, to_result, result_from}
 use Rattle.model.proofs.SettingsOctets.{octet-field}
 use Rattle.model.specs.WrittenFrames.{to_ready}
@@ -43,48 +52,27 @@ ready-number (suc (suc k)) =
     go true = refl
     go false = refl
 
-pub none-unheard : (k : ℕ) → k ≡ 0 → 0 ≡ entry_number (entry_of none (to_declared k))
-unfolding entry_number entry_of to_declared
-none-unheard k e = rw (eq-eqb k 0 e)
+-- the numbers of the code
+pub entry_numbers : (e : code.Entry) → tag_of entry_contracts.the_type e + 1 ≡ entry_number (entry_shown (Some e))
+unfolding entry_number entry_shown
+entry_numbers Filter = refl
+entry_numbers Forward = refl
 
-pub none-heard : (k : ℕ) → (k ≡ 0 → ⊥) → 1 ≡ entry_number (entry_of none (to_declared k))
-unfolding entry_number entry_of to_declared
-none-heard k n = rw (ne_eqb k 0 n)
-
-pub advertised-ready : (k : ℕ) → 2 ≤ k → 2 ≡ entry_number (entry_of advertise (to_declared k))
-unfolding entry_number entry_of
-advertised-ready k h = rw (ready-number k, le-leb 2 k h)
-
-pub advertised-unready : (k : ℕ) → k < 2 → 1 ≡ entry_number (entry_of advertise (to_declared k))
-unfolding entry_number entry_of
-advertised-unready k h = rw (ready-number k, lt-leb 2 k h)
-
-pub failed-filters : (b c k : ℕ) → 1 ≡ entry_number (entry_of (failed b c) (to_declared k))
-unfolding entry_number entry_of
-failed-filters b c k = refl
+pub talker_numbers : (k : TalkerAttribute) → tag_of talker_contracts.the_type k + 1 ≡ talker_number (Some k)
+unfolding talker_number
+talker_numbers talker.Advertise = refl
+talker_numbers talker.Failed = refl
 
 -- Ages.
 
-pub no-age : (e a : ℕ) → e ≡ 0 → 0 ≡ age_kept (to_entry e) a
-unfolding age_kept to_entry
-no-age e a h = rw (eq-eqb e 0 h)
-
-kept : (e a : ℕ) → (e ≡ 0 → ⊥) → age_kept (to_entry e) a ≡ a
-unfolding age_kept to_entry
-kept e a n = rw (ne_eqb e 0 n) (go (eqb e 1))
-  where
-    go : (t : Bool) → age_kept (cond t filters forwards) a ≡ a
-    go true = refl
-    go false = refl
-
-module _ (s : List ℕ) (now e : ℕ) (n : e ≡ 0 → ⊥) where
-  pub age-begins : get_or s in_result.entry 0 ≡ 0 → now / 100 ≡ age_kept (to_entry e) (age_of now (to_result s))
+module _ (s : List ℕ) (now : ℕ) where
+  pub age-begins : get_or s in_result.entry 0 ≡ 0 → now / 100 ≡ age_of now (to_result s)
   unfolding age_of to_result result_from to_entry fields
-  age-begins h = sym (kept e (age_of now (to_result s)) n ∙ rw (octet-field s in_result.entry, eq-eqb (get_or s in_result.entry 0) 0 h))
+  age-begins h = sym (rw (octet-field s in_result.entry, eq-eqb (get_or s in_result.entry 0) 0 h))
 
-  pub age-stays : (get_or s in_result.entry 0 ≡ 0 → ⊥) → be_at 4 s in_result.age ≡ age_kept (to_entry e) (age_of now (to_result s))
+  pub age-stays : (get_or s in_result.entry 0 ≡ 0 → ⊥) → be_at 4 s in_result.age ≡ age_of now (to_result s)
   unfolding age_of to_result result_from to_entry fields
-  age-stays h = sym (kept e (age_of now (to_result s)) n ∙ rw (octet-field s in_result.entry, ne_eqb (get_or s in_result.entry 0) 0 h) (held (eqb (get_or s in_result.entry 0) 1)))
+  age-stays h = sym (rw (octet-field s in_result.entry, ne_eqb (get_or s in_result.entry 0) 0 h) (held (eqb (get_or s in_result.entry 0) 1)))
     where
       held : (t : Bool) → elim (cond t filters forwards) [ no_entry ↦ now / 100 | filters ↦ be_at 4 s in_result.age | forwards ↦ be_at 4 s in_result.age ] ≡ be_at 4 s in_result.age
       held true = refl

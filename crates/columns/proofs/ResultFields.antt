@@ -13,10 +13,9 @@ use Rattle.octets.proofs.Be.{length-be}
 use Rattle.octets.proofs.Parts.{length-patch, patch-none, patch-is}
 use Rattle.octets.proofs.Fields.{length-packed-any, packed-append, patch-behind}
 use Rattle.model.specs.Layout.{in_result, result_size}
-use Rattle.model.specs.State.{Column, Declared}
+use Rattle.model.specs.State.{Column, Entry, Declared}
 use Rattle.model.specs.Settling.{entry_of, age_of, age_kept}
-use Rattle.model.specs.Table.{result_numbers, result_octets, entry_number, declared_number, to_entry, to_result}
-use Rattle.model.proofs.Results.{entry-back}
+use Rattle.model.specs.Table.{result_numbers, result_octets, entry_number, declared_number, to_result}
 use Rattle.table.proofs.Lens.{patch-whole}
 use Rattle.columns.specs.Stages.{shown_by}
 use Rattle.columns.specs.Answers.{column_widths, column_numbers, entry_widths, entry_size}
@@ -48,15 +47,15 @@ puts-packed (w ∷ ws) (v ∷ vs) e a s h =
     ∙ patch-next a w (width ws) (be w v) (packed ws vs) s (length-be w v) (omega arith)
 
 -- those of the column and those of the entry: the result as a whole
-pub result-put : (column : Column) (latency : ℕ) (heard : Declared) (now e a : ℕ) (s : List ℕ) → length s ≡ result_size
-    → e ≡ entry_number (entry_of column heard) → a ≡ age_kept (to_entry e) (age_of now (to_result s))
-    → patch in_result.entry entry_size (packed entry_widths (e ∷ a ∷ 0 ∷ [])) (patch 0 in_result.entry (packed column_widths (column_numbers column latency)) s)
+pub result-put : (column : Column) (latency : ℕ) (heard : Declared) (now : ℕ) (e : Entry) (a : ℕ) (s : List ℕ) → length s ≡ result_size
+    → e ≡ entry_of column heard → a ≡ age_kept e (age_of now (to_result s))
+    → patch in_result.entry entry_size (packed entry_widths (entry_number e ∷ a ∷ 0 ∷ [])) (patch 0 in_result.entry (packed column_widths (column_numbers column latency)) s)
     ≡ result_octets (shown_by column latency heard now (to_result s))
 unfolding result_octets result_numbers column_numbers declared_number width
 result-put column latency heard now e a s l p q =
     let vs = column_numbers column latency in
-    let us : List ℕ = e ∷ a ∷ 0 ∷ [] in
+    let us : List ℕ = entry_number e ∷ a ∷ 0 ∷ [] in
     patch-next 0 in_result.entry entry_size (packed column_widths vs) (packed entry_widths us) s (length-packed-any column_widths vs refl) (omega arith)
     ∙ patch-whole result_size (packed column_widths vs ++ packed entry_widths us) s l
     ∙ sym (packed-append column_widths entry_widths vs us refl)
-    ∙ rw (q, p, entry-back (entry_of column heard))
+    ∙ rw (q, p)

@@ -2,33 +2,39 @@
 use mathlib.Core.Path.{◌≡◌, refl, sym, ap, ◌∙◌}
 use mathlib.Core.List.{List, [], ◌∷◌}
 use mathlib.Core.Bool.{Bool, true, false, cond, not}
-use mathlib.Core.Logic.{◌⊎◌, ⊎_elim}
-use Prim.Native.Nat.{ℕ, ◌/◌, ◌≤◌, ◌<◌}
+use Prim.Native.Nat.{ℕ, ◌+◌, ◌/◌, ◌≤◌, ◌<◌}
 use native.Mathlib.Omega.{arith}
 use lib.ListN.{length, get_or, set}
 use lib.Seq.{get_or-set_same}
 use lib.Dec.{eqb, ltb}
-use borrow.Author.Tests.{ne_eqb, lt-ltb, le-ltb}
+use borrow.Author.Tests.{lt-ltb, le-ltb}
+use Rattle.std.specs.Prelude.{Option, Some, None}
 use Rattle.octets.specs.Be.{be_at}
 use Rattle.octets.specs.Fields.{fields}
 use Rattle.model.specs.Layout.{in_cell, in_port}
-use Rattle.model.specs.Lists.{All, is_one}
-use Rattle.model.specs.State.{Bridge, Port, talker_advertise, talker_failed, Own, Stream, Class, no_class, class_a, class_b, no_own, no_fixed, port_at, is_port, cell_at, own_at, class_of, is_no_class, supports}
+use Rattle.model.specs.Lists.{is_one}
+use Rattle.model.specs.State.{Settings, Bridge, Port, talker_advertise, talker_failed, Own, Stream, Class, no_class, class_a, class_b, no_own, no_fixed, port_at, is_port, cell_at, own_at, class_of, is_no_class, supports}
 use Rattle.model.specs.Frames.{priority_of}
-use Rattle.model.specs.Settling.{Scene, scene_of, boundary, source_of, fixed_of, is_talking, is_talker_failed, is_pruned, inbounds_of, shares, is_kept_out, StepName, step_a, step_b, step_c, step_d, step_e, step_f, step_g, step_i, step_j, step_k, step_l, step_m, step_n, Step, steps_from, steps, Source, nowhere, from, clear}
+use Rattle.model.specs.Settling.{Scene, scene_of, boundary, source_of, fixed_of, is_talking, is_talker_failed, is_pruned, inbounds_of, shares, is_kept_out, Outcome, about, outcome_column, StepName, step_a, step_b, step_c, step_d, step_e, step_f, step_g, step_i, step_j, step_k, step_l, step_m, step_n, Step, steps_from, steps, Source, nowhere, from}
 use Rattle.model.specs.Table.{to_port, to_cell, registration_from, to_talker_type, port_from}
-use Rattle.model.specs.Why.{letter, same_step, first_name}
+use Rattle.model.specs.Why.{letter, same_step, first_name, column_by}
 use Rattle.model.proofs.SettingsOctets.{octet-field}
-use Rattle.model.proofs.Why.{Before, before-from, clear-named, name-stays, name-clear}
-use Rattle.streams.specs.Answers.{source_in}
+use Rattle.streams.specs.declared.Class as code
+use Rattle.streams.specs.Answers.{named, class_shown, source_in}
 use Rattle.streams.proofs.Sources.{no-talker, a-talker}
+use Rattle.fanin.specs.declared.CommonFailure.{CommonFailure}
+use Rattle.fanin.specs.declared.CommonFailure.TheVariants.{SharedAddress, FanIn}
 use Rattle.fanin.specs.Failures.{failure_from, common_failure}
+use Rattle.columns.proofs.Talkers.{a-class}
 use Rattle.columns.specs.declared.Edges.{Edges}
 use Rattle.columns.specs.declared.Step as declared
-use Rattle.columns.specs.declared.Step.TheVariants.{None, A, B, C, D, E, F, G, H, I, J, K, L, M, N}
+use Rattle.columns.specs.declared.Step.TheVariants as step
+use Rattle.columns.specs.declared.Outcome as code_outcome
+use Rattle.columns.specs.contracts.Step as contracts
+use denote.Enum.Declared.{tag_of}
 use Rattle.columns.specs.Answers.{size_place}
-use Rattle.columns.specs.Steps.{step_shown, steps_before, steps_since, edge_of, EdgesOf}
-use Rattle.columns.specs.Places.{SceneOn}
+use Rattle.columns.specs.Steps.{step_shown, step_or, outcome_shown, steps_before, steps_since, edge_of, EdgesOf}
+use Rattle.columns.specs.Places.{SceneOn, pruned_on}
 use Rattle.columns.specs.Stages.{last_step}
 use Rattle.model.specs.WrittenFrames.{fixed_from}
 
@@ -54,71 +60,97 @@ failed-asked k b c = go (eqb k 1)
 -- The steps, from each on, every test as the code asks it: of a scene, the cell here on the port at place p, the Talker's
 -- cell said at place t.
 
-module _ (sc : Scene) (here said : List ℕ) (p t : ℕ) where
+module _ (sc : Scene) (here said : List ℕ) (p t : ℕ) (m : StepName) where
   abbrev pub class : Class
   class = class_of sc.settings (be_at 1 said in_cell.priority / 32)
 
-  abbrev pub from-j : StepName
-  from-j = cond (boundary (own_at sc.owns p) class) step_j step_i
+  abbrev from-a : StepName
+  from-a =
+      cond (eqb p t) step_a
+      (cond (not (supports (port_at sc.settings p) class)) step_b
+      (cond (is_pruned sc.settings (own_at sc.owns p) (fixed_of (source_in t (to_cell said)))) step_n
+      (cond (not (eqb (get_or said 0 0) 1)) step_c
+      (cond (eqb (get_or said in_cell.changed 0) 1) step_d
+      (cond (ltb (be_at 4 said in_cell.first_latency) (be_at 4 said in_cell.latency)) step_k
+      (cond (is_talking (to_cell here)) step_e
+      (cond (is_no_class class) step_f
+      (cond (boundary (own_at sc.owns p) class) step_j m))))))))
 
-  abbrev pub from-f : StepName
-  from-f = cond (is_no_class class) step_f from-j
-
-  abbrev pub from-e : StepName
-  from-e = cond (is_talking (to_cell here)) step_e from-f
-
-  abbrev pub from-k : StepName
-  from-k = cond (ltb (be_at 4 said in_cell.first_latency) (be_at 4 said in_cell.latency)) step_k from-e
-
-  abbrev pub from-d : StepName
-  from-d = cond (eqb (get_or said in_cell.changed 0) 1) step_d from-k
-
-  abbrev pub from-c : StepName
-  from-c = cond (not (eqb (get_or said 0 0) 1)) step_c from-d
-
-  abbrev pub from-n : StepName
-  from-n = cond (is_pruned sc.settings (own_at sc.owns p) (fixed_of (source_in t (to_cell said)))) step_n from-c
-
-  abbrev pub from-b : StepName
-  from-b = cond (not (supports (port_at sc.settings p) class)) step_b from-n
-
-  abbrev pub from-a : StepName
-  from-a = cond (eqb p t) step_a from-b
-
-  -- the first of them, of the stream with StreamID n
+  -- the first of them, of the stream with StreamID n, and m where none applies
   abbrev pub decided : ℕ → StepName
-  decided n = first_name (steps_before step_l (steps_from sc p (to_cell here) n (source_in t (to_cell said)))) step_i
+  decided n = first_name (steps_before step_l (steps_from sc p (to_cell here) n (source_in t (to_cell said)))) m
 
   -- a, no Talker port
   pub no_source : (n : ℕ) → get_or said 0 0 ≡ 0 → step_a ≡ decided n
   unfolding source_in steps_from steps_before first_name same_step letter
   no_source n e = rw (no-talker said e)
 
-  pub steps-asked : (n : ℕ) → (get_or said 0 0 ≡ 0 → ⊥) → decided n ≡ from-a
+  steps-asked : (n : ℕ) → (get_or said 0 0 ≡ 0 → ⊥) → decided n ≡ from-a
   unfolding source_in fixed_of registration_from steps_from steps_before first_name same_step letter is_one fields fixed_from priority_of
   steps-asked n k = rw (a-talker said k, octet-field said 0, octet-field said in_cell.changed, failed-asked)
 
 -- the flag of a class, in a scene
-pub edge-is : (e : Edges) (o : Own) → EdgesOf e o → (c : Class) → edge_of e c ≡ boundary o c
+edge-is : (e : Edges) (o : Own) → EdgesOf e o → (c : Class) → boundary o c ≡ edge_of e c
 unfolding edge_of boundary
 edge-is e o w no_class = refl
-edge-is e o w class_a = w.in_a
-edge-is e o w class_b = w.in_b
+edge-is e o w class_a = sym w.in_a
+edge-is e o w class_b = sym w.in_b
 
--- The last steps, from the failure on every port and what is read of the port and of the Talker's cell.
+-- The same of a bridge, with a port's flags: what they give is that in any scene of the bridge with these flags.
 
-module _ (common : ℕ) (q : Port) (port said : List ℕ) (there : to_port port ≡ q) where
-  abbrev last : StepName
-  last = last_step common q (be_at 2 said size_place)
+module _ (b : Bridge) (e : Edges) (here said : List ℕ) (p t : ℕ) where
+  abbrev pub asked : Class
+  asked = class_of b.settings (be_at 1 said in_cell.priority / 32)
 
-  module _ (none : (common ≡ 5 → ⊥) × (common ≡ 15 → ⊥)) (a b : ℕ) (e : a ≡ be_at 2 port in_port.largest) (f : b ≡ be_at 2 said size_place) where
-    pub too_large : a < b → step_g ≡ last
-    unfolding last_step to_port port_from fields
-    too_large h = rw (ne_eqb common 5 none.0, ne_eqb common 15 none.1, ← there, ← e, ← f, lt-ltb a b h)
+  abbrev pub told : StepName → StepName
+  told m =
+      cond (eqb p t) step_a
+      (cond (not (supports (port_at b.settings p) asked)) step_b
+      (cond (pruned_on b p (source_in t (to_cell said))) step_n
+      (cond (not (eqb (get_or said 0 0) 1)) step_c
+      (cond (eqb (get_or said in_cell.changed 0) 1) step_d
+      (cond (ltb (be_at 4 said in_cell.first_latency) (be_at 4 said in_cell.latency)) step_k
+      (cond (is_talking (to_cell here)) step_e
+      (cond (is_no_class asked) step_f
+      (cond (edge_of e asked) step_j m))))))))
 
-    pub no_step : b ≤ a → step_i ≡ last
-    unfolding last_step to_port port_from fields
-    no_step h = rw (ne_eqb common 5 none.0, ne_eqb common 15 none.1, ← there, ← e, ← f, le-ltb a b h)
+  pub steps-told : (sc : Scene) (n : ℕ) → SceneOn b p e sc → (m : StepName) → (get_or said 0 0 ≡ 0 → ⊥) → decided sc here said p t m n ≡ told m
+  unfolding is_pruned
+  steps-told sc n w m k =
+      steps-asked sc here said p t m n k
+      ∙ rw (w.settings, w.addresses, edge-is e (own_at sc.owns p) w.edges asked)
+
+  -- what the code asks of the class, which it has read
+  module _ (g : ℕ) (f : g ≡ be_at 1 said in_cell.priority) (c : Option code.Class) (h : class_shown c ≡ class_of b.settings (g / 32)) where
+    pub class-told : class_shown c ≡ asked
+    class-told = h ∙ rw f
+
+    pub supports-told : (r : Bool) (port : List ℕ) → r ≡ supports (to_port port) (class_shown c) → to_port port ≡ port_at b.settings p
+        → supports (port_at b.settings p) asked ≡ r
+    supports-told r port q i = rw (← i, ← class-told, ← q)
+
+    pub none-told : c ≡ None → is_no_class asked ≡ true
+    unfolding is_no_class class_shown
+    none-told q = rw (← class-told, q)
+
+    pub some-told : (d : code.Class) → c ≡ Some d → is_no_class asked ≡ false
+    unfolding class_shown
+    some-told d q = rw (← class-told, q) (a-class d)
+
+    pub edge-told : (d : code.Class) → c ≡ Some d → (r : Bool) → r ≡ edge_of e (named d) → edge_of e asked ≡ r
+    unfolding class_shown
+    edge-told d q r i = rw (← class-told, q, ← i)
+
+-- The last step, of a stream without a failure on every port, from what is read of the port and of the Talker's cell.
+
+module _ (q : Port) (port said : List ℕ) (there : to_port port ≡ q) (a b : ℕ) (e : a ≡ be_at 2 port in_port.largest) (f : b ≡ be_at 2 said size_place) where
+  pub too_large : a < b → step_g ≡ last_step None q (be_at 2 said size_place)
+  unfolding last_step to_port port_from fields
+  too_large h = rw (← there, ← e, ← f, lt-ltb a b h)
+
+  pub no_step : b ≤ a → step_i ≡ last_step None q (be_at 2 said size_place)
+  unfolding last_step to_port port_from fields
+  no_step h = rw (← there, ← e, ← f, le-ltb a b h)
 
 -- A place that is no port has column none; a port has what the steps before one of them give, and those from it on where none of these
 -- applies.
@@ -133,15 +165,6 @@ first-split m (s ∷ l) n = go (same_step s.name m) (first-split m l n)
     go true ih = refl
     go false ih = ap (λ (d : StepName). cond s.test s.name d) ih
 
-all-before : (P : Step → Type 0) (m : StepName) (l : List Step) → All P l → All P (steps_before m l)
-unfolding steps_before
-all-before P m [] a = tt
-all-before P m (s ∷ l) a = go (same_step s.name m) (all-before P m l a.1)
-  where
-    go : (b : Bool) → All P (steps_before m l) → All P (cond b [] (s ∷ steps_before m l))
-    go true ih = tt
-    go false ih = (a.0, ih)
-
 module _ (sc : Scene) (p : ℕ) (x : Stream) where
   pub no-port : length sc.settings.ports ≤ p → step_a ≡ first_name (steps sc p x) step_i
   unfolding steps first_name is_port
@@ -150,19 +173,16 @@ module _ (sc : Scene) (p : ℕ) (x : Stream) where
   abbrev pub all : List Step
   all = steps_from sc p (cell_at x p) x.id (source_of x)
 
-  first-clear : clear (steps_before step_l all) ≡ same_step (first_name (steps_before step_l all) step_i) step_i
-  first-clear = clear-named (steps_before step_l all) (all-before Before step_l all (before-from sc p (cell_at x p) x.id (source_of x)))
-
-  last-from : (o : Source) (common : ℕ) → common ≡ failure_from sc x.id o
+  last-from : (o : Source) (common : Option CommonFailure) → common ≡ failure_from sc x.id o
       → first_name (steps_since step_l (steps_from sc p (cell_at x p) x.id o)) step_i ≡ last_step common (port_at sc.settings p) (fixed_of o).size
   unfolding first_name steps_since steps_from same_step letter last_step failure_from fixed_of no_fixed
   last-from nowhere common e = rw (e, le-ltb (port_at sc.settings p).largest 0 (omega arith))
   last-from (from o) common e =
       rw e (go (shares sc.inbound record { id = x.id; origin = o }) (is_kept_out sc.settings.fan_in sc.inbound o))
     where
-      go : (a b : Bool) → let rest = cond (ltb (port_at sc.settings p).largest o.registration.fixed.size) step_g step_i in
-          cond a step_l (cond b step_m rest)
-          ≡ cond (eqb (cond a 5 (cond b 15 0)) 5) step_l (cond (eqb (cond a 5 (cond b 15 0)) 15) step_m rest)
+      go : (a b : Bool) → let size = o.registration.fixed.size in
+          cond a step_l (cond b step_m (cond (ltb (port_at sc.settings p).largest size) step_g step_i))
+          ≡ last_step (cond a (Some SharedAddress) (cond b (Some FanIn) None)) (port_at sc.settings p) size
       go true b = refl
       go false true = refl
       go false false = refl
@@ -172,50 +192,60 @@ module _ (sc : Scene) (p : ℕ) (x : Stream) where
   unfolding steps first_name is_port
   a-port h = rw (lt-ltb p (length sc.settings.ports) h) (first-split step_l all step_i)
 
--- Another step than i, and what the code finds of one.
+  -- the first of all, where the code has found the first of those before l, if one of them applies
+  pub named-by : p < length sc.settings.ports → (r : Option declared.Step)
+      → ((m : StepName) → step_or r m ≡ first_name (steps_before step_l all) m)
+      → (common : Option CommonFailure) → common ≡ common_failure sc x → (size : ℕ) → size ≡ (fixed_of (source_of x)).size
+      → step_or r (last_step common (port_at sc.settings p) size) ≡ first_name (steps sc p x) step_i
+  named-by h r e common g size q =
+      e (last_step common (port_at sc.settings p) size)
+      ∙ ap (first_name (steps_before step_l all)) (rw q (sym (last-from (source_of x) common g)))
+      ∙ sym (a-port h)
 
-pub other_step : (r : declared.Step) → (r ≡ I → ⊥) → same_step (step_shown r) step_i ≡ false
+-- the column of a step, by what the code finds that it gives
+pub told-column : (st : Settings) (s : Source) (n : StepName) (r o : code_outcome.Outcome) → outcome_shown r ≡ (about n).outcome → r ≡ o
+    → outcome_column st s (outcome_shown o) ≡ column_by st s n
+unfolding column_by
+told-column st s n r o e q = rw (← q) (ap (λ (v : Outcome). outcome_column st s v) e)
+
+-- the letters of the code
+pub letter_is : (r : declared.Step) → tag_of contracts.the_type r + 97 ≡ letter (step_shown r)
+unfolding step_shown letter
+letter_is step.A = refl
+letter_is step.B = refl
+letter_is step.C = refl
+letter_is step.D = refl
+letter_is step.E = refl
+letter_is step.F = refl
+letter_is step.G = refl
+letter_is step.H = refl
+letter_is step.I = refl
+letter_is step.J = refl
+letter_is step.K = refl
+letter_is step.L = refl
+letter_is step.M = refl
+letter_is step.N = refl
+
+-- another step than i
+pub other_step : (r : declared.Step) → (r ≡ step.I → ⊥) → same_step (step_shown r) step_i ≡ false
 unfolding step_shown same_step letter
-other_step None n = refl
-other_step A n = refl
-other_step B n = refl
-other_step C n = refl
-other_step D n = refl
-other_step E n = refl
-other_step F n = refl
-other_step G n = refl
-other_step H n = refl
-other_step I n = absurd (n refl)
-other_step J n = refl
-other_step K n = refl
-other_step L n = refl
-other_step M n = refl
-other_step N n = refl
-
-pub none-but-i : ◌≡◌ {A = ℕ} 9 0 ⊎ (◌≡◌ {A = ℕ} 9 1 ⊎ (◌≡◌ {A = ℕ} 9 2 ⊎ (◌≡◌ {A = ℕ} 9 3 ⊎ (◌≡◌ {A = ℕ} 9 4 ⊎ (◌≡◌ {A = ℕ} 9 5 ⊎ (◌≡◌ {A = ℕ} 9 6 ⊎ (◌≡◌ {A = ℕ} 9 7 ⊎ (◌≡◌ {A = ℕ} 9 8 ⊎ (◌≡◌ {A = ℕ} 9 10 ⊎ (◌≡◌ {A = ℕ} 9 11 ⊎ (◌≡◌ {A = ℕ} 9 12 ⊎ (◌≡◌ {A = ℕ} 9 13 ⊎ ◌≡◌ {A = ℕ} 9 14)))))))))))) → ⊥
-none-but-i = ⊎_elim (λ z. omega arith) (⊎_elim (λ z. omega arith) (⊎_elim (λ z. omega arith) (⊎_elim (λ z. omega arith) (⊎_elim (λ z. omega arith) (⊎_elim (λ z. omega arith) (⊎_elim (λ z. omega arith) (⊎_elim (λ z. omega arith) (⊎_elim (λ z. omega arith) (⊎_elim (λ z. omega arith) (⊎_elim (λ z. omega arith) (⊎_elim (λ z. omega arith) (⊎_elim (λ z. omega arith) (λ z. omega arith)))))))))))))
-
--- What the first steps named, and what follows it.
-
-module _ (sc : Scene) (p : ℕ) (x : Stream) (h : p < length sc.settings.ports) (r : declared.Step)
-    (e : step_shown r ≡ first_name (steps_before step_l (all sc p x)) step_i) where
-  pub goes-no-further : (r ≡ I → ⊥) → step_shown r ≡ first_name (steps sc p x) step_i
-  goes-no-further n =
-      e
-      ∙ sym (a-port sc p x h
-      ∙ name-stays (first_name (steps_since step_l (all sc p x)) step_i) (steps_before step_l (all sc p x)) (ap (λ (m : StepName). same_step m step_i) (sym e) ∙ other_step r n))
-
-  pub goes_on : r ≡ I → (common size : ℕ) → common ≡ common_failure sc x → size ≡ (fixed_of (source_of x)).size
-      → first_name (steps sc p x) step_i ≡ last_step common (port_at sc.settings p) size
-  unfolding step_shown
-  goes_on f common size g q =
-      a-port sc p x h
-      ∙ name-clear (first_name (steps_since step_l (all sc p x)) step_i) (steps_before step_l (all sc p x))
-      (first-clear sc p x ∙ ap (λ (m : StepName). same_step m step_i) (sym e) ∙ rw f (unfold same_step letter in refl))
-      ∙ last-from sc p x (source_of x) common g ∙ rw q
+other_step step.A n = refl
+other_step step.B n = refl
+other_step step.C n = refl
+other_step step.D n = refl
+other_step step.E n = refl
+other_step step.F n = refl
+other_step step.G n = refl
+other_step step.H n = refl
+other_step step.I n = absurd (n refl)
+other_step step.J n = refl
+other_step step.K n = refl
+other_step step.L n = refl
+other_step step.M n = refl
+other_step step.N n = refl
 
 -- the own failure on every port is that in any scene of the bridge
-pub same-failure : {b : Bridge} {p : ℕ} {e : Edges} {sc : Scene} (x : Stream) (common : ℕ) → SceneOn b p e sc → common ≡ common_failure (scene_of b) x → common ≡ common_failure sc x
+pub same-failure : {b : Bridge} {p : ℕ} {e : Edges} {sc : Scene} (x : Stream) (common : Option CommonFailure) → SceneOn b p e sc → common ≡ common_failure (scene_of b) x → common ≡ common_failure sc x
 same-failure {b} {p} {e} {sc} x common w f = f ∙ go (source_of x)
   where
     go : (o : Source) → failure_from (scene_of b) x.id o ≡ failure_from sc x.id o

@@ -2,7 +2,7 @@
 -- priority, and the fixed values' octets.
 use mathlib.Core.Path.{◌≡◌, refl, sym, ap, ◌∙◌}
 use mathlib.Core.List.{List}
-use mathlib.Core.Bool.{Bool, true, false, false≢true, true≢false}
+use mathlib.Core.Bool.{Bool, true, false}
 use Prim.Native.Nat.{ℕ, ◌+◌, ◌/◌, ◌≤◌, ◌<◌}
 use native.Mathlib.Omega.{arith}
 use lib.ListN.{get_or}
@@ -11,14 +11,16 @@ use borrow.Author.Tests.{eq-eqb, ne_eqb, eqb-true, eqb-false, lt-ltb, le-ltb}
 use Rattle.octets.specs.Be.{be_at}
 use Rattle.octets.specs.Fields.{fields}
 use Rattle.model.specs.Layout.{in_cell, cell_index}
-use Rattle.model.specs.State.{Settings, Port, none, failed, Class, no_class, class_a, class_b, is_no_class, Talker, no_talker, talker, Cell, Stream, no_fixed, port_at, cell_at, class_of, class_latency}
+use Rattle.model.specs.State.{Settings, none, failed, is_no_class, Talker, no_talker, talker, Cell, Stream, no_fixed, port_at, cell_at, class_of, class_latency}
 use Rattle.model.specs.WrittenFrames.{priority_octet, fixed_numbers}
 use Rattle.model.specs.Settling.{Source, source_of, fixed_of, latency_of, talker_type_of, failed_column, stream_class, capped, latency_out}
 use Rattle.model.specs.Table.{to_port, port_from, cell_numbers, talker_numbers, registration_from, to_talker_type, to_cell}
 use Rattle.model.specs.Laid.{FitRank}
 use Rattle.model.proofs.Fits.{laid-cell-fits}
 use Rattle.table.specs.Reads.{ReadsCell, ReadsPort}
-use Rattle.streams.specs.Answers.{talker_port, source_in}
+use Rattle.streams.specs.declared.Class.{Class}
+use Rattle.streams.specs.declared.Class.TheVariants.{A, B}
+use Rattle.streams.specs.Answers.{named, talker_port, source_in}
 use Rattle.model.proofs.SettingsOctets.{octet-field}
 use Rattle.streams.proofs.Sources.{no-talker, a-talker}
 pub use Rattle.streams.proofs.Fixed.{fixed-part, source-read}
@@ -65,19 +67,17 @@ module _ (s : List ℕ) (t : ℕ) where
   a-failure h =
       rw (a-talker s (λ e. omega (arith, e)), octet-field s 0, octet-field s in_cell.code, ne_eqb (get_or s 0 0) 1 (λ e. omega (arith, e)))
 
--- The latency of a class in a port's octets.
+-- Of a class.
 
-pub class-latency-read : (port : List ℕ) (c : Class) (at : ℕ) → at ≡ latency_place_of c → is_no_class c ≡ false → be_at 4 port at ≡ class_latency (to_port port) c
-unfolding latency_place_of is_no_class class_latency to_port port_from fields
-class-latency-read port no_class at e h = absurd (true≢false h)
-class-latency-read port class_a at e h = rw e
-class-latency-read port class_b at e h = rw e
+pub a-class : (c : Class) → is_no_class (named c) ≡ false
+unfolding is_no_class named
+a-class A = refl
+a-class B = refl
 
-pub no-class-latency : (q : Port) (c : Class) → is_no_class c ≡ true → 0 ≡ class_latency q c
-unfolding is_no_class class_latency
-no-class-latency q no_class h = refl
-no-class-latency q class_a h = absurd (false≢true h)
-no-class-latency q class_b h = absurd (false≢true h)
+pub latency_of_class : (port : List ℕ) (c : Class) → class_latency (to_port port) (named c) ≡ be_at 4 port (latency_place_of c)
+unfolding latency_place_of named class_latency to_port port_from fields
+latency_of_class port A = refl
+latency_of_class port B = refl
 
 -- The cell at place t of a stream whose Talker stands there, in the octets s.
 

@@ -1,6 +1,6 @@
 -- What stage 1 is asked of: parts of a table, and a stream with its Talker's place; and a stream on its way through it, one place
 -- after another.
-use Rattle.std.specs.Prelude.{◌≡◌, List, ◌++◌, Bool, ℕ, ◌<◌, length, set, drop}
+use Rattle.std.specs.Prelude.{◌≡◌, Option, List, ◌++◌, Bool, ℕ, ◌<◌, length, set, drop}
 use Rattle.model.specs.Layout.{cell_size}
 use Rattle.model.specs.Lists.{tabulate}
 use Rattle.model.specs.State.{Stream, Bridge, own_at}
@@ -10,6 +10,7 @@ use Rattle.model.specs.Laid.{Laid}
 use Rattle.table.specs.Updates.{resulting, stream_at, with_stream}
 use Rattle.table.specs.Places.{StandsOn}
 use Rattle.streams.specs.Answers.{talker_port}
+use Rattle.fanin.specs.declared.CommonFailure.{CommonFailure}
 use Rattle.fanin.specs.Failures.{common_failure}
 use Rattle.columns.specs.declared.Edges.{Edges}
 use Rattle.columns.specs.Steps.{EdgesOf}
@@ -40,7 +41,7 @@ pub record TalkerAt (s : List ℕ) (k t : ℕ) : Type 0 where
   pub is : t ≡ talker_port (source_of (stream_at k (decode s)))
 
 -- with the own failure that it has on every port
-pub record FailureAt (s : List ℕ) (k t common : ℕ) : Type 0 where
+pub record FailureAt (s : List ℕ) (k t : ℕ) (common : Option CommonFailure) : Type 0 where
   pub talker : TalkerAt s k t
   pub is : common ≡ common_failure (scene_of (decode s)) (stream_at k (decode s))
 

@@ -1,13 +1,15 @@
 -- Settling in stages, as the code takes them after removal: (1) every stream gets its settled values and, on every port, the
 -- result of the steps before h, as if step h admitted it; (2) for each port and class, those that h does not admit become failed with
 -- code 1; (3) the Talker port declares the merged Listener. Each stage reads what the one before left in the table.
-use Rattle.std.specs.Prelude.{List, [], ◌∷◌, map, Bool, cond, not, ◌&&◌, ℕ, zero, suc, get_or, set, eqb, ltb}
+use Rattle.std.specs.Prelude.{Option, Some, None, List, [], ◌∷◌, map, Bool, cond, not, ◌&&◌, ℕ, zero, suc, get_or, set, ltb}
 use Rattle.model.specs.Lists.{keep, tabulate}
 use Rattle.model.specs.State.{Settings, Column, advertise, failed, filters, Declared, nothing, Result, Stream, Totals, Bridge, no_totals, port_at, cell_at, result_at, Class, no_class, class_a, class_b, class_of, same_class, in_force, Port}
 use Rattle.model.specs.Registrations.{holding}
 use Rattle.model.specs.Bandwidth.{Claim, demand, rate_of, admitted, total}
 use Rattle.model.specs.Settling.{Scene, scene_of, source_of, fixed_of, is_source, registered, is_ready, is_advertise, first, outcome_column, StepName, step_g, step_i, step_l, step_m, steps, age_of, latency_out, entry_of, age_kept, latency_kept, passed, merge_all}
 use Rattle.table.specs.Updates.{resulting}
+use Rattle.fanin.specs.declared.CommonFailure.{CommonFailure}
+use Rattle.fanin.specs.declared.CommonFailure.TheVariants.{SharedAddress, FanIn}
 
 -- (1)
 
@@ -28,8 +30,10 @@ unfoldable pub shown_as : Settings → ℕ → Stream → ℕ → Column → Res
 shown_as st now x p column = shown_by column (latency_out st p x) (registered (cell_at x p)) now (result_at x p)
 
 -- steps 5, 15 and g, from the own failure that the stream has on every port, a port and MaxFrameSize; i where none applies
-unfoldable pub last_step : ℕ → Port → ℕ → StepName
-last_step common q size = cond (eqb common 5) step_l (cond (eqb common 15) step_m (cond (ltb q.largest size) step_g step_i))
+unfoldable pub last_step : Option CommonFailure → Port → ℕ → StepName
+last_step (Some SharedAddress) q size = step_l
+last_step (Some FanIn) q size = step_m
+last_step None q size = cond (ltb q.largest size) step_g step_i
 
 -- the column of the steps before h, and Advertise where none of them applies
 unfoldable pub early_column : Scene → ℕ → Stream → Column

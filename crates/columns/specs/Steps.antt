@@ -1,33 +1,36 @@
 -- The code's answers about steps in the words of the definitions, and a port's flags.
-use Rattle.std.specs.Prelude.{◌≡◌, List, [], ◌∷◌, Bool, false, cond}
+use Rattle.std.specs.Prelude.{◌≡◌, Option, Some, None, List, [], ◌∷◌, Bool, false, cond}
 use Rattle.model.specs.State.{Own, Class, no_class, class_a, class_b}
-use Rattle.model.specs.Settling.{Outcome, column_none, as_registered, as_advertise, own_failure, About, StepName, no_step, step_a, step_b, step_c, step_d, step_e, step_f, step_g, step_h, step_i, step_j, step_k, step_l, step_m, step_n}
+use Rattle.model.specs.Settling.{Outcome, column_none, as_registered, as_advertise, own_failure, StepName, step_a, step_b, step_c, step_d, step_e, step_f, step_g, step_h, step_i, step_j, step_k, step_l, step_m, step_n}
 use Rattle.model.specs.Settling as model
 use Rattle.model.specs.Why.{same_step}
 use Rattle.columns.specs.declared.Step.{Step}
-use Rattle.columns.specs.declared.Step.TheVariants.{None, A, B, C, D, E, F, G, H, I, J, K, L, M, N}
+use Rattle.columns.specs.declared.Step.TheVariants as step
 use Rattle.columns.specs.declared.Outcome as declared
 use Rattle.columns.specs.declared.Outcome.TheVariants.{Nothing, Registered, Admitted, Failure}
-use Rattle.columns.specs.declared.About as told
 use Rattle.columns.specs.declared.Edges.{Edges}
 
 -- the step that the code names
 unfoldable pub step_shown : Step → StepName
-step_shown None = no_step
-step_shown A = step_a
-step_shown B = step_b
-step_shown C = step_c
-step_shown D = step_d
-step_shown E = step_e
-step_shown F = step_f
-step_shown G = step_g
-step_shown H = step_h
-step_shown I = step_i
-step_shown J = step_j
-step_shown K = step_k
-step_shown L = step_l
-step_shown M = step_m
-step_shown N = step_n
+step_shown step.A = step_a
+step_shown step.B = step_b
+step_shown step.C = step_c
+step_shown step.D = step_d
+step_shown step.E = step_e
+step_shown step.F = step_f
+step_shown step.G = step_g
+step_shown step.H = step_h
+step_shown step.I = step_i
+step_shown step.J = step_j
+step_shown step.K = step_k
+step_shown step.L = step_l
+step_shown step.M = step_m
+step_shown step.N = step_n
+
+-- or another where it names none
+abbrev pub step_or : Option Step → StepName → StepName
+step_or None m = m
+step_or (Some s) m = step_shown s
 
 -- the steps before one, and those from it on
 unfoldable pub steps_before : StepName → List model.Step → List model.Step
@@ -38,15 +41,12 @@ unfoldable pub steps_since : StepName → List model.Step → List model.Step
 steps_since n [] = []
 steps_since n (s ∷ l) = cond (same_step s.name n) (s ∷ l) (steps_since n l)
 
--- what is told of a step
+-- what a step gives
 unfoldable pub outcome_shown : declared.Outcome → Outcome
 outcome_shown Nothing = column_none
 outcome_shown Registered = as_registered
 outcome_shown Admitted = as_advertise
 outcome_shown (Failure code) = own_failure code
-
-unfoldable pub about_shown : told.About → About
-about_shown r = record { letter = r.0; outcome = outcome_shown r.1 }
 
 -- the flag of a class
 unfoldable pub edge_of : Edges → Class → Bool

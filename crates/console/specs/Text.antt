@@ -4,12 +4,6 @@ use Rattle.octets.specs.Parts.{patch}
 use Rattle.octets.specs.Pick.{pick}
 use Rattle.io.specs.Digits.{hex_digit_ascii}
 
--- the lesser of two numbers
-pub record Least (a b r : ℕ) : Type 0 where
-  pub is : r ≡ min a b
-  pub first : r ≤ a
-  pub second : r ≤ b
-
 -- a number that stands in so many hexadecimal digits, at most 16
 pub record HexGiven (n width : ℕ) : Type 0 where
   pub some : 1 ≤ width

@@ -2,7 +2,7 @@
 -- spelled here". Assumes nothing.
 use Rattle.std.specs.Prelude.{ℕ, List, [], ◌∷◌, ◌++◌}
 use Rattle.model.specs.State.{Entry, no_entry, filters, forwards, asking_failed, ready, ready_failed, Declared, nothing, tells}
-use Rattle.model.specs.Reports.{ColumnWord, none_word, advertise_word, failed_word, Report}
+use Rattle.model.specs.Reports.{ColumnWord, none_word, advertise_word, failed_word}
 use Rattle.console.specs.Text.{spaced}
 
 -- none, advertise, failed
@@ -24,10 +24,7 @@ entry_text no_entry = 110 ∷ 111 ∷ 110 ∷ 101 ∷ []
 entry_text filters = 102 ∷ 105 ∷ 108 ∷ 116 ∷ 101 ∷ 114 ∷ []
 entry_text forwards = 102 ∷ 111 ∷ 114 ∷ 119 ∷ 97 ∷ 114 ∷ 100 ∷ []
 
--- column and code of a report, a space before each
-unfoldable pub talker_text : Report → List ℕ
-talker_text r = (32 ∷ column_text r.column) ++ spaced r.code
-
--- and Listener and entry
-unfoldable pub shown_text : Report → List ℕ
-shown_text r = (talker_text r ++ (32 ∷ listener_text r.listener)) ++ (32 ∷ entry_text r.entry)
+-- what a report shows of a stream, a space before each
+unfoldable pub shown_text : ColumnWord → ℕ → Declared → Entry → List ℕ
+shown_text column code listener entry =
+    (((32 ∷ column_text column) ++ spaced code) ++ (32 ∷ listener_text listener)) ++ (32 ∷ entry_text entry)

@@ -2,13 +2,13 @@
 use mathlib.Core.Path.{◌≡◌, refl, sym, ◌∙◌, ap, ap₂}
 use mathlib.Core.Bool.{Bool, true, false, cond}
 use mathlib.Core.List.{List, [], ◌∷◌}
-use Prim.Native.Nat.{ℕ, zero, suc, ◌+◌, ◌-◌, ◌*◌, ◌/◌, ◌≤◌, ◌<◌}
+use Prim.Native.Nat.{ℕ, zero, suc, ◌+◌, ◌-◌, ◌*◌, ◌/◌, ◌≤◌, ◌<◌, min}
 use native.Mathlib.Omega.{arith}
 use native.Mathlib.Numerals.{add-one}
 use lib.ListN.{length, get_or, set, take, drop, length-append, length-drop}
 use lib.Seq.{drop-length, drop-drop, drop-set-lt, get_or-set_same, get_or-set_other}
-use lib.Dec.{leb, eqb}
-use borrow.Author.Tests.{lt-ltb, le-ltb, le-leb, lt-leb, eq-eqb, ne_eqb, eqb-true, eqb-false}
+use lib.Dec.{leb, ltb, eqb}
+use borrow.Author.Tests.{ltb-true, ltb-false, le-leb, lt-leb, eq-eqb, ne_eqb, eqb-true, eqb-false}
 use Rattle.model.specs.Lists.{All, longest}
 use Rattle.model.specs.Frames.{three_length, four_length}
 use Rattle.model.specs.Cutting.{mac, Part, concat, values, octets_for}
@@ -73,16 +73,6 @@ module _ (l : List ℕ) (i k x y : ℕ) (h : i + k < length l) (ex : x ≡ get_o
     seek-next =
         rw (add-one (i + k), next-try l (get_or l i 0) k (i + k) (record { weighs = w; first = f }) h, ← ex, ← ey, eq-eqb _ _ m, ← eq, ← b, a, add-one (suc (i + k)))
 
--- which of two is taken
-module _ (w f q g : ℕ) where
-  pub lower-keeps : w < q → lower (record { weighs = w; first = f }) (record { weighs = q; first = g }) ≡ record { weighs = w; first = f }
-  unfolding lower
-  lower-keeps n = rw (lt-ltb _ _ n)
-
-  pub lower-takes : q ≤ w → lower (record { weighs = w; first = f }) (record { weighs = q; first = g }) ≡ record { weighs = q; first = g }
-  unfolding lower
-  lower-takes n = rw (le-ltb _ _ n)
-
 -- an entry's numbers are small
 singles-weigh : (l : List ℕ) → weight (singles l) ≡ 781 * length l
 unfolding singles values price octets_for three_length four_length
@@ -143,6 +133,14 @@ next l i f h e = go (best (drop i l)) refl (best-cuts (drop i l)).0 (best-cuts (
               (w.1 ∙ ap best (ap (λ (z : ℕ). drop z (drop i l)) (sym k) ∙ drop-drop f i l));
         }
 
+min-less : (m n : ℕ) → less m n ≡ min m n
+unfolding less
+min-less m n = go (ltb n m) refl
+  where
+    go : (t : Bool) → ltb n m ≡ t → cond t n m ≡ min m n
+    go true e = let h : n < m = ltb-true n m e in omega arith
+    go false e = let h : m ≤ n = ltb-false n m e in omega arith
+
 -- the loop back from a last declaration: c is what is tried
 module _ (key cost : ℕ → ℕ) (y j i m x : ℕ) (s : j ≡ suc i) (ex : x ≡ key i) where
   pub back-stops : (x / 65536 ≡ y / 65536 → ⊥) → back key cost y j m ≡ m
@@ -150,13 +148,9 @@ module _ (key cost : ℕ → ℕ) (y j i m x : ℕ) (s : j ≡ suc i) (ex : x �
   back-stops n = rw (s, ← ex, ne_eqb _ _ n)
 
   module _ (e : x / 65536 ≡ y / 65536) (c : ℕ) (o : c ≡ cost i + octets_for (y - x + 1)) where
-    pub back-takes : c < m → back key cost y j m ≡ back key cost y i c
+    pub back-goes : back key cost y j m ≡ back key cost y i (min m c)
     unfolding back mac less
-    back-takes n = rw (s, ← ex, eq-eqb _ _ e, ← o, lt-ltb _ _ n)
-
-    pub back-keeps : m ≤ c → back key cost y j m ≡ back key cost y i m
-    unfolding back mac less
-    back-keeps n = rw (s, ← ex, eq-eqb _ _ e, ← o, le-ltb _ _ n)
+    back-goes = rw (s, ← ex, eq-eqb _ _ e, ← o) (ap (back key cost y i) (min-less m c))
 
 pub back-ends : (key cost : ℕ → ℕ) (y j m : ℕ) → j ≡ 0 → back key cost y j m ≡ m
 unfolding back

@@ -5,7 +5,7 @@ ghost use Rattle.std.specs.Prelude.{◌≡◌, ◌+◌, ◌≤◌, ◌<◌, leng
 ghost use Rattle.model.specs.Cutting.{values, octets_for};
 ghost use Rattle.model.specs.Best.{price, least, run};
 ghost use Rattle.cutting.specs.Named.{ids_of, Named, PartIn};
-ghost use Rattle.cutting.specs.Plan.{none, entries, Weighed, Counted, Costed, Kept, Packed};
+ghost use Rattle.cutting.specs.Plan.{none, lower, entries, Weighed, Counted, Costed, Kept, Packed};
 
 // The octets of a vector before its events, header and StreamID, and of a vector of one value.
 const HEAD: u64 = 10;
@@ -28,6 +28,7 @@ pub struct Entry {
 }
 
 // The octets of a vector of n values.
+#[tactic(auto, unfolding(model::specs::Cutting::octets_for, model::specs::Frames::three_length, model::specs::Frames::four_length))]
 fn octets_for(n: u64) -> u64
     requires { n ≤ 65536 }
     ensures { (result ≡ octets_for n) × (result < 40000) }
@@ -36,6 +37,7 @@ fn octets_for(n: u64) -> u64
 }
 
 // The weight of a vector of n values.
+#[tactic(auto, unfolding(model::specs::Best::price))]
 fn price_of(n: u64) -> u64
     requires { n ≤ 65536 }
     ensures { (result ≡ price n) × (result < 4194304) }
@@ -44,6 +46,7 @@ fn price_of(n: u64) -> u64
 }
 
 // The StreamID of the stream that is named at place i.
+// Streams are named by their places in the table, an octet each: there is no heap, and memory is fixed.
 pub fn id_of(table: &[u8], places: &[u8], i: usize) -> u64
     requires { Named table.now places.now × (i < length places.now) }
     ensures { result ≡ get_or (ids_of table.now places.now) i 0 }
@@ -68,48 +71,52 @@ pub fn size_of(table: &[u8], places: &[u8]) -> usize
     octets_for(values_of(table, places)) as usize
 }
 
+// Of two entries the one that weighs less; where they weigh the same, the second, whose first vector is longer.
+// No order of entries: of equal weights the second must win, where min_by_key gives the first.
+#[tactic(auto, unfolding(crate::specs::Plan::lower))]
+fn lower(e: Entry, f: Entry) -> Entry
+    ensures { result ≡ lower e f }
+{
+    if f.weighs <= e.weighs {
+        return f;
+    }
+    e
+}
+
 // The entry of the tail from `at` on, given what each later tail weighs.
 fn choose(table: &[u8], places: &[u8], at: usize, weighs: &[u16]) -> Entry
     requires { Named table.now places.now × (at < length places.now) × (length weighs.now ≡ 65) × Weighed (ids_of table.now places.now) (at + 1) weighs.now }
     ensures { result ≡ get_or (entries (ids_of table.now places.now)) at none }
 {
-    let n = places.len();
     let x = id_of(table, places, at);
-    let mut w: u64 = ALONE_WEIGHS + (weighs[at + 1] as u64);
-    let mut f: usize = 1;
-    let mut k: usize = 1;
-    while at + k < n {
+    let mut best = Entry {
+        weighs: ALONE_WEIGHS + weighs[at + 1] as u64,
+        first: 1,
+    };
+    for k in 1..places.len() - at {
         let y = id_of(table, places, at + k);
         if y / OF_A_MAC != x / OF_A_MAC {
-            return Entry {
-                weighs: w,
-                first: f,
-            };
+            return best;
         }
-        let p = price_of(y - x + 1) + (weighs[at + k + 1] as u64);
-        k += 1;
-        if p <= w {
-            w = p;
-            f = k;
-        }
+        let longer = Entry {
+            weighs: price_of(y - x + 1) + weighs[at + k + 1] as u64,
+            first: k + 1,
+        };
+        best = lower(best, longer);
     }
-    Entry {
-        weighs: w,
-        first: f,
-    }
+    best
 }
 
-// The entries of all tails of at most 64 rising StreamIDs.
+// The entries of all tails of at most 64 rising StreamIDs, in two slices and not in one of entries: `fit` keeps its costs in the first.
 fn plan(table: &[u8], places: &[u8], weighs: &mut [u16], firsts: &mut [u8])
     requires { Named table.now places.now × (length weighs.old ≡ 65) × (length firsts.old ≡ 65) }
     ensures { Weighed (ids_of table.now places.now) 0 weighs.new × Counted (ids_of table.now places.now) 0 firsts.new
         × Kept (length places.now) weighs.old weighs.new × Kept (length places.now) firsts.old firsts.new }
 {
-    let mut i = places.len();
-    weighs[i] = 0;
-    firsts[i] = 0;
-    while 0 < i {
-        i -= 1;
+    let n = places.len();
+    weighs[n] = 0;
+    firsts[n] = 0;
+    for i in (0..n).rev() {
         let e = choose(table, places, i, weighs);
         weighs[i] = e.weighs as u16;
         firsts[i] = e.first as u8;
@@ -122,20 +129,15 @@ fn least_to(table: &[u8], places: &[u8], k: usize, costs: &[u16]) -> u64
     ensures { result ≡ least (take (k + 1) (ids_of table.now places.now)) }
 {
     let y = id_of(table, places, k);
-    let mut m: u64 = (costs[k] as u64) + ALONE;
-    let mut j = k;
-    while 0 < j {
-        j -= 1;
+    let mut least = costs[k] as u64 + ALONE;
+    for j in (0..k).rev() {
         let x = id_of(table, places, j);
         if x / OF_A_MAC != y / OF_A_MAC {
-            return m;
+            return least;
         }
-        let c = (costs[j] as u64) + octets_for(y - x + 1);
-        if c < m {
-            m = c;
-        }
+        least = least.min(costs[j] as u64 + octets_for(y - x + 1));
     }
-    m
+    least
 }
 
 // How many declarations, from the first on, fit in `room` octets. A vector for each is always enough.
@@ -148,16 +150,14 @@ fn fit(table: &[u8], places: &[u8], room: u64, costs: &mut [u16]) -> usize
         return n;
     }
     costs[0] = 0;
-    let mut k: usize = 0;
-    while k < n {
-        let c = least_to(table, places, k, costs);
-        if room < c {
+    for k in 0..n {
+        let least = least_to(table, places, k, costs);
+        if room < least {
             return k;
         }
-        k += 1;
-        costs[k] = c as u16;
+        costs[k + 1] = least as u16;
     }
-    k
+    n
 }
 
 // The run to write in at most `room` octets, and the plan of its least cutting; behind it both slices stay.

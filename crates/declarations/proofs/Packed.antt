@@ -39,7 +39,7 @@ use Rattle.declarations.specs.Vectors.{some}
 use Rattle.declarations.specs.Passes.{declarers, machine_by, said_of, said_by, said_from}
 use Rattle.declarations.specs.Packed.{first_said, listener_at, listeners_at, Tells, Telling, packed_vectors}
 use Rattle.declarations.proofs.Declared.{said-end, nothing_said, said-counted, said-taken}
-use Rattle.declarations.proofs.Vectors.{listener-said}
+use Rattle.declarations.proofs.Vectors.{listener_said}
 
 -- What is said of them: of each a Listener, with its StreamID.
 
@@ -149,7 +149,7 @@ module _ (t : List ℕ) (p : ℕ) (whole : List Said) where
               absurd
               (omega (arith, w.enough, ap length (said-end (registers listeners) p (decode t) k (ltb-false k (declarers (registers listeners) p (decode t)) e))))
 
-      pub stream-left : Held k
+      stream-left : Held k
       stream-left = unfold declarers in one_left
 
       further : All (λ i. i < k + 1) (take n places)
@@ -178,7 +178,7 @@ module _ (t : List ℕ) (p : ℕ) (whole : List Said) where
           let rest = take (length places - (n + 1)) (left (k + 1)) in
           let one : take (length places - n) (left k) ≡ listener_at p (decode t) k ∷ rest =
           said-taken (registers listeners) p (decode t) k one_left q (length places - n) some_more
-          ∙ ap (λ (h : List Said). h ++ take (length places - n - 1) (left (k + 1))) (listener-said p (decode t) k q).2
+          ∙ ap (λ (h : List Said). h ++ take (length places - n - 1) (left (k + 1))) (listener_said p (decode t) k q).2
           ∙ ap (λ (i : ℕ). listener_at p (decode t) k ∷ take i (left (k + 1))) m in
           let more : ids_of t (take n places ++ (k ∷ [])) ≡ ids_of t (take n places) ++ ((stream_at k (decode t)).id ∷ []) =
           unfold ids_of in (map-append (λ i. (stream_at i (decode t)).id) (take n places) (k ∷ [])) in

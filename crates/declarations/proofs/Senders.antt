@@ -80,6 +80,6 @@ pub active-octet : (p : ℕ) (b : Bridge) {s : List ℕ} → ReadsSender s (send
 unfolding leaves_all
 active-octet p b w = ap (λ (n : ℕ). eqb n 1) (active-read w) ∙ active-is (sender_at b.senders p).leave_all.state
 
-pub slot-state : (k p : ℕ) (b : Bridge) {s : List ℕ} → ReadsSender s (sender_at b.senders p) → k < slots → get_or s (0 + k) 0 ≡ state_number (machine_by domain_type p b k)
+pub slot_state : (k p : ℕ) (b : Bridge) {s : List ℕ} → ReadsSender s (sender_at b.senders p) → k < slots → get_or s (0 + k) 0 ≡ state_number (machine_by domain_type p b k)
 unfolding machine_by
-slot-state k p b w h = slot_read w (λ u. domain_of b.settings k) k h
+slot_state k p b w h = slot_read w (λ u. domain_of b.settings k) k h

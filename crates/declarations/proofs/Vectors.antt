@@ -10,6 +10,11 @@ use lib.Seq.{take_at, drop_at, drop-drop, get_or-append-add}
 use Rattle.octets.specs.Parts.{part}
 use Rattle.octets.specs.Fields.{packed, width, flat}
 use Rattle.octets.proofs.Fields.{length-packed-any}
+use denote.Enum.Declared.{tag_of}
+use Rattle.model.specs.contracts.event.Event.{the_type}
+use Rattle.model.specs.declared.event.Event.{Event}
+use Rattle.model.specs.declared.event.Event.TheVariants.{New, JoinIn, In, JoinMt, Mt, Lv}
+use Rattle.model.specs.Numbers.{event_number}
 use Rattle.model.specs.Layout.{advertising_size, failed_size, failing_size, failure_widths, in_sends, offer_size, offer_widths, ready_size}
 use Rattle.model.specs.Lists.{bit}
 use Rattle.model.specs.Machines.{Listed, Applicant, no_applicant, applicant}
@@ -98,20 +103,20 @@ module _ (p : ℕ) (b : Bridge) (k : ℕ) where
   abbrev sends : Sends
   sends = sends_at (stream_at k b) p
 
-  pub advertising-state : get_or (sends_octets sends) in_sends.advertising 0 ≡ state_number (machine_by (registers advertises) p b k)
+  pub advertising_state : get_or (sends_octets sends) in_sends.advertising 0 ≡ state_number (machine_by (registers advertises) p b k)
   unfolding machine_by declarations_of
-  advertising-state =
+  advertising_state =
       rw (sent sends) (first-octet offer_size offer_octets (advertise_of (stream_at k b).id) sends.advertising (failing sends ++ listening sends))
 
-  pub failing-state : get_or (sends_octets sends) in_sends.failing 0 ≡ state_number (machine_by (registers faileds) p b k)
+  pub failing_state : get_or (sends_octets sends) in_sends.failing 0 ≡ state_number (machine_by (registers faileds) p b k)
   unfolding machine_by declarations_of
-  failing-state =
+  failing_state =
       behind-advertising sends 0
       ∙ first-octet failed_size (both_octets offer_octets failure_octets) (failed_of (stream_at k b).id) sends.failing (listening sends)
 
-  pub listening-state : get_or (sends_octets sends) in_sends.listening 0 ≡ state_number (machine_by (registers listeners) p b k)
+  pub listening_state : get_or (sends_octets sends) in_sends.listening 0 ≡ state_number (machine_by (registers listeners) p b k)
   unfolding machine_by declarations_of
-  listening-state =
+  listening_state =
       behind-failing sends 0
       ∙ ap (λ (l : List ℕ). get_or l 0 0) (sym (append-nil (listening sends)))
       ∙ first-octet ready_size ready_octets (listener_declaration (stream_at k b).id) sends.listening []
@@ -196,11 +201,11 @@ module _ (p : ℕ) (b : Bridge) (k : ℕ) where
           (λ e. domain-vector b.settings e k) (unfold listed_as in q))
 
   -- a Listener's declaration type, from 1 to 3, and what is said of it
-  pub listener-said : some (said_by (registers listeners) p b k) ≡ true
+  pub listener_said : some (said_by (registers listeners) p b k) ≡ true
       → (get_or (sends_octets (sends_at x p)) (in_sends.listening + 1) 0 ≡ listener_number (listener_at p b k).declaration) × (listener_number (listener_at p b k).declaration ≤ 3)
       × (said_by (registers listeners) p b k ≡ listener_at p b k ∷ []) × ((listener_at p b k).event ≡ event_in (said_by (registers listeners) p b k))
   unfolding said_by machine_by declarations_of listener_at
-  listener-said q = rw (behind-failing (sends_at x p) 1) (go (sends_at x p).listening q)
+  listener_said q = rw (behind-failing (sends_at x p) 1) (go (sends_at x p).listening q)
     where
       go : (a : Applicant Ready) → some (said_of b p (listed_as (listener_declaration id) a)) ≡ true
           → let l = said_of b p (listed_as (listener_declaration id) a) in
@@ -211,3 +216,21 @@ module _ (p : ℕ) (b : Bridge) (k : ℕ) where
           let z : Listed Declaration = record { state = y.state; value = listener_declaration id y.value } in
           let e : said_of b p (listed_as (listener_declaration id) (applicant y)) ≡ say_on b p z ∷ [] = unfold listed_as in (said-there b p z (unfold listed_as in q)) in
           rw e (unfold first_said say_on say listener_number applicant_octets ready_octets event_in in (refl, (ready-number y.value).1, refl, refl))
+
+-- An event's number, in the code and in three packed ones.
+
+pub event_few : (e : Event) → event_number e ≤ 5
+event_few New = omega arith
+event_few JoinIn = omega arith
+event_few In = omega arith
+event_few JoinMt = omega arith
+event_few Mt = omega arith
+event_few Lv = omega arith
+
+pub as_event : (e : Event) → tag_of the_type e ≡ event_number e
+as_event New = refl
+as_event JoinIn = refl
+as_event In = refl
+as_event JoinMt = refl
+as_event Mt = refl
+as_event Lv = refl

@@ -41,7 +41,7 @@ module _ (j : Attribute) (p : ℕ) (b : Bridge) (size : ℕ) (whole : List Said)
 
     -- where some are left, a declarer is, and the octets of a vector
     module _ (some_left : 0 < left) where
-      pub one_left : k < declarers j p b
+      one_left : k < declarers j p b
       one_left = go (ltb k (declarers j p b)) refl
         where
           go : (t : Bool) → ltb k (declarers j p b) ≡ t → k < declarers j p b
@@ -60,7 +60,7 @@ module _ (j : Attribute) (p : ℕ) (b : Bridge) (size : ℕ) (whole : List Said)
 
       -- a vector y written behind the others
       module _ (q : some (said_by j p b k) ≡ true) (y : List ℕ) (z : length y ≡ size) where
-        pub left-long : length (take at out ++ (y ++ drop (at + size - at) (drop at out))) ≡ length out
+        left-long : length (take at out ++ (y ++ drop (at + size - at) (drop at out))) ≡ length out
         left-long = ap length (lent-patch at size y out) ∙ length-patch at size y out z one-fits
 
         pub left-take : y ≡ vectors (said_by j p b k)

@@ -1,4 +1,5 @@
 -- Writing in passes, one for each type of declaration: what a pass finds, takes and leaves.
+use Rattle.model.specs.Attributes.{type_of}
 use Rattle.std.specs.Prelude.{◌≡◌, List, [], ◌∷◌, ◌++◌, map, Bool, true, false, cond, ℕ, zero, suc, ◌+◌, ◌-◌, ◌/◌, ◌≤◌, ◌<◌, length, get_or, take, drop, ltb}
 use Rattle.octets.specs.Parts.{patch}
 use Rattle.octets.specs.Fields.{flat}
@@ -6,7 +7,7 @@ use Rattle.model.specs.FrameLayout.{longest_pdu}
 use Rattle.model.specs.Machines.{Listed, no_applicant}
 use Rattle.model.specs.Places.{saying, reached}
 use Rattle.model.specs.State.{Bridge, cell_at, sends_at, sender_at, own_at, no_domain, stream_at}
-use Rattle.model.specs.Registrations.{Kind, advertises, faileds, listeners, registered_in, domain_stays}
+use Rattle.model.specs.Registrations.{advertises, faileds, listeners, registered_in, domain_stays}
 use Rattle.model.specs.Frames as frames
 use Rattle.model.specs.Frames.{registers, domain_type}
 use Rattle.model.specs.Sending.{standing_number}
@@ -17,20 +18,12 @@ use Rattle.model.specs.WrittenFrames.{declaration_vector, vector_octets, vectors
 use Rattle.model.specs.Table.{decode}
 use Rattle.model.specs.Laid.{Laid}
 use Rattle.table.specs.Places.{PortIn}
-use Rattle.declarations.specs.declared.Attribute.{Attribute}
-use Rattle.declarations.specs.declared.Attribute.TheVariants.{Advertise, Failed, Listener, Domain}
 use Rattle.declarations.specs.declared.Run.{Run}
 use Rattle.declarations.specs.declared.Start.{Start}
 use Rattle.declarations.specs.declared.Message.{Message}
 use Rattle.declarations.specs.declared.Progress.{Progress}
 use Rattle.declarations.specs.declared.Taken.{Taken}
 use Rattle.declarations.specs.Vectors.{some}
-
-unfoldable pub type : Attribute → frames.Attribute
-type Advertise = registers advertises
-type Failed = registers faileds
-type Listener = registers listeners
-type Domain = domain_type
 
 -- What may declare something of a type, by its place: each stream, or each Domain slot of the port.
 
@@ -52,12 +45,6 @@ state_number (x ∷ l) = standing_number x.state
 unfoldable pub registered_by : frames.Attribute → ℕ → Bridge → ℕ → Bool
 registered_by (registers j) p b k = registered_in j (cell_at (stream_at k b) p)
 registered_by domain_type p b k = domain_stays (get_or (own_at b.owns p).domains k no_domain)
-
--- the Talker types by the numbers of a cell
-unfoldable pub talker_of : ℕ → Kind
-talker_of zero = advertises
-talker_of (suc zero) = advertises
-talker_of (suc (suc n)) = faileds
 
 -- what a write says of declarations: those with something to say, each with its event
 unfoldable pub said_of : Bridge → ℕ → List (Listed Declaration) → List Said
@@ -126,11 +113,11 @@ pub record StartsAt (t : List ℕ) (p : ℕ) (j : frames.Attribute) (n : ℕ) (s
 pub record RunIn (t : List ℕ) (p : ℕ) (r : Run) : Type 0 where
   pub port : PortIn t p
   pub any : 0 < r.count
-  pub single : Single (type r.attribute)
-  pub enough : r.count ≤ length (said_from (type r.attribute) p (decode t) r.first)
+  pub single : Single (type_of r.attribute)
+  pub enough : r.count ≤ length (said_from (type_of r.attribute) p (decode t) r.first)
 
 abbrev pub run_of : List ℕ → ℕ → Run → List Said
-run_of t p r = take r.count (said_from (type r.attribute) p (decode t) r.first)
+run_of t p r = take r.count (said_from (type_of r.attribute) p (decode t) r.first)
 
 -- how many vectors of a size fit into 1,500 octets, of so many, with so many octets used
 unfoldable pub fits : ℕ → ℕ → ℕ → ℕ
@@ -181,7 +168,7 @@ pub record MessageIn (t : List ℕ) (p : ℕ) (k : frames.Attribute) (at : ℕ) 
 -- all that is to say of a type from a place on
 pub record RestIn (t : List ℕ) (p : ℕ) (r : Run) : Type 0 where
   pub few : r.count ≤ 64
-  pub all : r.count ≡ length (said_from (type r.attribute) p (decode t) r.first)
+  pub all : r.count ≡ length (said_from (type_of r.attribute) p (decode t) r.first)
 
 -- What a pass takes of the declarations of its type, how far the PDU then is, and what is written. The first declaration that has
 -- something to say and finds no room ends the PDU, but for the Messages that LeaveAll needs.

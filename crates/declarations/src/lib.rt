@@ -5,6 +5,7 @@
 ghost use Rattle.std.specs.Prelude.{◌≡◌, false, not, [], ◌∷◌, ◌++◌, ◌+◌, ◌-◌, ◌*◌, ◌≤◌, ◌<◌, length, get_or, eqb};
 ghost use Rattle.octets.specs.Be.{be};
 ghost use Rattle.octets.specs.Parts.{part};
+ghost use Rattle.model.specs.Attributes.{type_of};
 ghost use Rattle.model.specs.Layout.{sends_size};
 ghost use Rattle.model.specs.FrameLayout.{domain_length, in_first_value};
 ghost use Rattle.model.specs.State.{no_domain, cell_at, sends_at, sender_at, own_at, stream_at};
@@ -18,13 +19,18 @@ ghost use Rattle.model.specs.Writing.{leaves_all, port_way};
 ghost use Rattle.model.specs.WrittenFrames.{listener_number, packed_vector, vector_octets, message_of};
 ghost use Rattle.model.specs.Laid.{Laid};
 ghost use Rattle.model.specs.Table.{decode};
+ghost use Rattle.model.specs.Numbers.{event_number};
+ghost use Rattle.applicants.specs.Octets.{octet};
 ghost use Rattle.table.specs.Places.{StandsOn, PortIn, SlotIn};
 ghost use Rattle.declarations.specs.Vectors.{some, Holding, headed, talker_vector, domain_vector, TalkerIn, announced};
-ghost use Rattle.declarations.specs.declared.Attribute.TheVariants.{Listener};
+ghost use Rattle.model.specs.declared.attribute.Attribute.TheVariants.{Listener};
 ghost use Rattle.declarations.specs.Passes as passes;
-ghost use Rattle.declarations.specs.Passes.{type, talker_of, machine_by, state_number, registered_by, said_by, said_from, machines_from, all_of, vectors, Single, Declarer, Saying, event_in, VectorIn, StartsAt, RunIn, run_of, message, MessageIn, MessageWritten, RestIn, PassIn, PassLeaves, WriteIn, PduWritten};
+ghost use Rattle.declarations.specs.Passes.{machine_by, state_number, registered_by, said_by, said_from, machines_from, all_of, vectors, Single, Declarer, Saying, event_in, VectorIn, StartsAt, RunIn, run_of, message, MessageIn, MessageWritten, RestIn, PassIn, PassLeaves, WriteIn, PduWritten};
 ghost use Rattle.declarations.specs.Packed.{listener_at, listeners_at, Telling, PlacesIn, Placed, three_unit, four_unit, events_of, ValuesIn, VectorOfPart, packed_vectors, CutIn, ListenersIn, PackedIn};
 
+use applicants::Applicant;
+use model::attribute::Attribute;
+use model::event::Event;
 use model::pdu;
 
 // The octets of an EndMark; of a Message's AttributeType, AttributeLength and list length; of all that a Message has beside its
@@ -62,26 +68,12 @@ const CLASS_B: u64 = 5;
 
 const PRIORITIES: u64 = 8;
 
-// The octets of each type's FirstValue, and of its vector of one value: an octet of packed events follows, for a Listener two.
-const ADVERTISE_LENGTH: usize = BEHIND_ID - FIRST + OFFER;
-
-const FAILED_LENGTH: usize = BEHIND_ID - FIRST + FAILED_OFFER;
-
-const LISTENER_LENGTH: usize = BEHIND_ID - FIRST;
-
+// The octets of a Domain value's FirstValue; those of packed events behind a FirstValue: one, and for a Listener two.
 const DOMAIN_LENGTH: usize = CLASS_ID + PRIORITY + VLAN;
 
 const EVENTS: usize = 1;
 
-const ADVERTISE_VECTOR: usize = FIRST + ADVERTISE_LENGTH + EVENTS;
-
-const FAILED_VECTOR: usize = FIRST + FAILED_LENGTH + EVENTS;
-
-const LISTENER_VECTOR: usize = FIRST + LISTENER_LENGTH + 2 * EVENTS;
-
-const DOMAIN_VECTOR: usize = FIRST + DOMAIN_LENGTH + EVENTS;
-
-// The octets of a Message without values, by the length of its FirstValue.
+// The octets of a Message without values, beside a FirstValue.
 const EMPTY: usize = AROUND + FIRST;
 
 // What an octet weighs in a plan of Listeners, beside 1 for each vector.
@@ -90,37 +82,24 @@ const OCTET_WEIGHS: u16 = 65;
 // The worth of an event as the first of three packed ones.
 const FIRST_EVENT: u64 = 36;
 
-// The types of declarations, in the order in which they are written.
-#[derive(Clone, Copy)]
-pub enum Attribute {
-    Advertise,
-    Failed,
-    Listener,
-    Domain,
-}
-
 // The octets of a vector of one value.
+#[tactic(auto, unfolding(model::specs::Declarations::vector_size, model::specs::Frames::first_length))]
 fn vector_size(attribute: Attribute) -> usize
-    ensures { (result ≡ vector_size (type attribute)) × (1 ≤ result) × (result ≤ 37) }
+    ensures { (result ≡ vector_size (type_of attribute)) × (1 ≤ result) × (result ≤ 37) }
 {
-    match attribute {
-        Attribute::Advertise => ADVERTISE_VECTOR,
-        Attribute::Failed => FAILED_VECTOR,
-        Attribute::Listener => LISTENER_VECTOR,
-        Attribute::Domain => DOMAIN_VECTOR,
-    }
+    let events = match attribute {
+        Attribute::Listener => 2 * EVENTS,
+        Attribute::Advertise | Attribute::Failed | Attribute::Domain => EVENTS,
+    };
+    FIRST + attribute.first_length() + events
 }
 
 // AttributeType and AttributeLength, as one number.
+#[tactic(auto, unfolding(octets::specs::Be::be, model::specs::Frames::type_number, model::specs::Frames::first_length))]
 fn type_and_length(attribute: Attribute) -> u64
-    ensures { be 2 result ≡ type_number (type attribute) ∷ first_length (type attribute) ∷ [] }
+    ensures { be 2 result ≡ type_number (type_of attribute) ∷ first_length (type_of attribute) ∷ [] }
 {
-    match attribute {
-        Attribute::Advertise => 256 + ADVERTISE_LENGTH as u64,
-        Attribute::Failed => 2 * 256 + FAILED_LENGTH as u64,
-        Attribute::Listener => 3 * 256 + LISTENER_LENGTH as u64,
-        Attribute::Domain => 4 * 256 + DOMAIN_LENGTH as u64,
-    }
+    attribute as u64 * 256 + attribute.first_length() as u64
 }
 
 // Whether the next write of port p carries LeaveAll.
@@ -133,44 +112,42 @@ fn leaves_all(table: &[u8], p: usize) -> bool
 }
 
 // The octets of a type's Message that only carries LeaveAll; 0 without LeaveAll, when there is none.
+#[tactic(auto, unfolding(model::specs::Declarations::empty_size, model::specs::Frames::first_length))]
 fn empty_size(attribute: Attribute, all: bool) -> usize
-    ensures { (result ≡ empty_size all (type attribute)) × (result ≤ 42) }
+    ensures { (result ≡ empty_size all (type_of attribute)) × (result ≤ 42) }
 {
-    if !all {
-        return 0;
+    if all {
+        return EMPTY + attribute.first_length();
     }
-    match attribute {
-        Attribute::Advertise => EMPTY + ADVERTISE_LENGTH,
-        Attribute::Failed => EMPTY + FAILED_LENGTH,
-        Attribute::Listener => EMPTY + LISTENER_LENGTH,
-        Attribute::Domain => EMPTY + DOMAIN_LENGTH,
-    }
+    0
 }
 
 // The octets of those of the later types.
+#[tactic(auto, unfolding(crate::specs::Passes::later, model::specs::Declarations::empty_size, model::specs::Frames::first_length))]
 fn later_sizes(attribute: Attribute, all: bool) -> usize
-    ensures { (result ≡ passes.later all (type attribute)) × (result ≤ 70) }
+    ensures { (result ≡ passes.later all (type_of attribute)) × (result ≤ 70) }
 {
-    if !all {
-        return 0;
-    }
     match attribute {
-        Attribute::Advertise => 3 * EMPTY + FAILED_LENGTH + LISTENER_LENGTH + DOMAIN_LENGTH,
-        Attribute::Failed => 2 * EMPTY + LISTENER_LENGTH + DOMAIN_LENGTH,
-        Attribute::Listener => EMPTY + DOMAIN_LENGTH,
+        Attribute::Advertise => {
+            empty_size(Attribute::Failed, all)
+                + (empty_size(Attribute::Listener, all) + empty_size(Attribute::Domain, all))
+        }
+        Attribute::Failed => {
+            empty_size(Attribute::Listener, all) + empty_size(Attribute::Domain, all)
+        }
+        Attribute::Listener => empty_size(Attribute::Domain, all),
         Attribute::Domain => 0,
     }
 }
 
 // The number of those that may declare something of a type: the streams, or the Domain slots.
+#[tactic(auto, using(crate::proofs::Places::slots_held), unfolding(crate::specs::Passes::declarers))]
 fn declarers(table: &[u8], p: usize, attribute: Attribute) -> usize
     requires { PortIn table.now p }
-    ensures { (result ≡ passes.declarers (type attribute) p (decode table.now)) × (result ≤ 64) }
+    ensures { (result ≡ passes.declarers (type_of attribute) p (decode table.now)) × (result ≤ 64) }
 {
     match attribute {
-        Attribute::Advertise => table::count(table),
-        Attribute::Failed => table::count(table),
-        Attribute::Listener => table::count(table),
+        Attribute::Advertise | Attribute::Failed | Attribute::Listener => table::count(table),
         Attribute::Domain => table::SLOTS,
     }
 }
@@ -192,107 +169,75 @@ fn slot_octet(table: &[u8], k: usize, p: usize) -> u8
     sender[table::sender::APPLICANTS + k]
 }
 
-// The state of the Applicant of a type that the declarer at place k has on port p; 0 where it has none.
-pub fn state_of(table: &[u8], k: usize, p: usize, attribute: Attribute) -> u8
-    requires { Declarer table.now k p (type attribute) }
-    ensures { result ≡ state_number (machine_by (type attribute) p (decode table.now) k) }
+// The Applicant of a type that the declarer at place k has on port p.
+#[tactic(auto, using(applicants::proofs::Octets::octet_read, crate::proofs::States::state_few, crate::proofs::Vectors::advertising_state, crate::proofs::Vectors::failing_state, crate::proofs::Vectors::listening_state))]
+pub fn applicant_of(table: &[u8], k: usize, p: usize, attribute: Attribute) -> Applicant
+    requires { Declarer table.now k p (type_of attribute) }
+    ensures { octet result ≡ state_number (machine_by (type_of attribute) p (decode table.now) k) }
 {
     match attribute {
-        Attribute::Advertise => sent_octet(table, k, p, table::sends::ADVERTISING),
-        Attribute::Failed => sent_octet(table, k, p, table::sends::FAILING),
-        Attribute::Listener => sent_octet(table, k, p, table::sends::LISTENING),
-        Attribute::Domain => slot_octet(table, k, p),
+        Attribute::Advertise => {
+            Applicant::from(sent_octet(table, k, p, table::sends::ADVERTISING))
+        }
+        Attribute::Failed => Applicant::from(sent_octet(table, k, p, table::sends::FAILING)),
+        Attribute::Listener => Applicant::from(sent_octet(table, k, p, table::sends::LISTENING)),
+        Attribute::Domain => Applicant::from(slot_octet(table, k, p)),
     }
-}
-
-// Whether a Talker of a kind, 1 Advertise or 2 Failed, is registered on port p and not leaving; a Listener; a Domain value.
-fn talker_stays(table: &[u8], k: usize, p: usize, kind: u8) -> bool
-    requires { StandsOn table.now k p × (1 ≤ kind) × (kind ≤ 2) }
-    ensures { result ≡ registered_in (talker_of kind) (cell_at (stream_at k (decode table.now)) p) }
-{
-    let cell = table::cell_at(table, k, p);
-    if cell[table::cell::TALKER] == kind {
-        return cell[table::cell::TALKER_LEAVES] == 0;
-    }
-    false
-}
-
-fn listener_stays(table: &[u8], k: usize, p: usize) -> bool
-    requires { StandsOn table.now k p }
-    ensures { result ≡ registered_in listeners (cell_at (stream_at k (decode table.now)) p) }
-{
-    let cell = table::cell_at(table, k, p);
-    if cell[table::cell::LISTENER] == 0 {
-        return false;
-    }
-    cell[table::cell::LISTENER_LEAVES] == 0
-}
-
-fn domain_stays(table: &[u8], k: usize, p: usize) -> bool
-    requires { SlotIn table.now p k }
-    ensures { result ≡ domain_stays (get_or (own_at (decode table.now).owns p).domains k no_domain) }
-{
-    let a = table::slot_in(table, p, k);
-    if table[a + table::slot::HELD] == 0 {
-        return false;
-    }
-    table[a + table::slot::LEAVES] == 0
 }
 
 // Whether port p now has a registration of the declarer's type and key that is not leaving.
 pub fn is_registered(table: &[u8], k: usize, p: usize, attribute: Attribute) -> bool
-    requires { Declarer table.now k p (type attribute) }
-    ensures { result ≡ registered_by (type attribute) p (decode table.now) k }
+    requires { Declarer table.now k p (type_of attribute) }
+    ensures { result ≡ registered_by (type_of attribute) p (decode table.now) k }
 {
-    match attribute {
-        Attribute::Advertise => talker_stays(table, k, p, 1),
-        Attribute::Failed => talker_stays(table, k, p, 2),
-        Attribute::Listener => listener_stays(table, k, p),
-        Attribute::Domain => domain_stays(table, k, p),
+    match attribute.of_stream() {
+        Some(stream) => cells::is_registered(table::cell_at(table, k, p), stream),
+        None => {
+            let a = table::slot_in(table, p, k);
+            domains::is_registered(&table[a..a + table::SLOT])
+        }
     }
 }
 
 // Whether the declarer at place k has a declaration of a type on port p, and whether a write says something of it.
+#[tactic(auto, using(crate::proofs::States::some_state))]
 fn declares(table: &[u8], k: usize, p: usize, attribute: Attribute) -> bool
-    requires { Declarer table.now k p (type attribute) }
-    ensures { result ≡ some (machine_by (type attribute) p (decode table.now) k) }
+    requires { Declarer table.now k p (type_of attribute) }
+    ensures { result ≡ some (machine_by (type_of attribute) p (decode table.now) k) }
 {
-    state_of(table, k, p, attribute) != 0
+    !applicant_of(table, k, p, attribute).is_none()
 }
 
+#[tactic(auto, using(crate::proofs::States::says_some))]
 fn says(table: &[u8], k: usize, p: usize, attribute: Attribute) -> bool
-    requires { Declarer table.now k p (type attribute) }
-    ensures { result ≡ some (said_by (type attribute) p (decode table.now) k) }
+    requires { Declarer table.now k p (type_of attribute) }
+    ensures { result ≡ some (said_by (type_of attribute) p (decode table.now) k) }
 {
-    let state = state_of(table, k, p, attribute);
-    applicants::is_written(state, leaves_all(table, p))
+    applicant_of(table, k, p, attribute).is_written(leaves_all(table, p))
 }
 
 // The event that a write says of it.
-fn event_of(table: &[u8], k: usize, p: usize, attribute: Attribute) -> u8
-    requires { Saying table.now k p (type attribute) }
-    ensures { (result ≡ event_in (said_by (type attribute) p (decode table.now) k)) × (result ≤ 5) }
+#[tactic(auto, using(crate::proofs::States::event_said))]
+fn event_of(table: &[u8], k: usize, p: usize, attribute: Attribute) -> Event
+    requires { Saying table.now k p (type_of attribute) }
+    ensures { event_number result ≡ event_in (said_by (type_of attribute) p (decode table.now) k) }
 {
-    let state = state_of(table, k, p, attribute);
     let registered = is_registered(table, k, p, attribute);
-    applicants::event_written(state, registered, leaves_all(table, p))
+    let applicant = applicant_of(table, k, p, attribute);
+    applicant.event_written(registered, leaves_all(table, p))
 }
 
-// The number of declarations of a type.
+// The number of declarations of a type; counted in a loop, since `filter` and `count` leave open that these are the ones.
 fn count_of(table: &[u8], p: usize, attribute: Attribute) -> usize
     requires { PortIn table.now p }
-    ensures { (result ≡ length (all_of (type attribute) p (decode table.now))) × (result ≤ 64) }
+    ensures { (result ≡ length (all_of (type_of attribute) p (decode table.now))) × (result ≤ 64) }
 {
     let count = declarers(table, p, attribute);
     let mut n: usize = 0;
-    let mut k: usize = 0;
-    while k < count {
-        let here = k;
-        k += 1;
-        if !declares(table, here, p, attribute) {
-            continue;
+    for k in 0..count {
+        if declares(table, k, p, attribute) {
+            n += 1;
         }
-        n += 1;
     }
     n
 }
@@ -318,43 +263,35 @@ pub struct Start {
 
 fn seek(table: &[u8], p: usize, attribute: Attribute, skip: usize) -> Start
     requires { PortIn table.now p }
-    ensures { StartsAt table.now p (type attribute) skip result }
+    ensures { StartsAt table.now p (type_of attribute) skip result }
 {
     let count = declarers(table, p, attribute);
     let mut before = skip;
-    let mut k: usize = 0;
-    while k < count {
+    for k in 0..count {
         if before == 0 {
             return Start { first: k, skip: 0 };
         }
-        let here = k;
-        k += 1;
-        if !declares(table, here, p, attribute) {
-            continue;
+        if declares(table, k, p, attribute) {
+            before -= 1;
         }
-        before -= 1;
     }
     Start {
-        first: k,
+        first: count,
         skip: before,
     }
 }
 
-// How many declarations of a type have something to say, from the declarer at a place on.
+// How many declarations of a type have something to say, from the declarer at a place on; in a loop likewise.
 fn count_saying(table: &[u8], p: usize, attribute: Attribute, first: usize) -> usize
     requires { PortIn table.now p }
-    ensures { (result ≡ length (said_from (type attribute) p (decode table.now) first)) × (result ≤ 64) }
+    ensures { (result ≡ length (said_from (type_of attribute) p (decode table.now) first)) × (result ≤ 64) }
 {
     let count = declarers(table, p, attribute);
     let mut n: usize = 0;
-    let mut k = first;
-    while k < count {
-        let here = k;
-        k += 1;
-        if !says(table, here, p, attribute) {
-            continue;
+    for k in first..count {
+        if says(table, k, p, attribute) {
+            n += 1;
         }
-        n += 1;
     }
     n
 }
@@ -362,26 +299,21 @@ fn count_saying(table: &[u8], p: usize, attribute: Attribute, first: usize) -> u
 // How many declarations stand there before the first one that has something to say and finds no room, where n do.
 fn reach(table: &[u8], p: usize, attribute: Attribute, first: usize, n: usize) -> usize
     requires { PortIn table.now p }
-    ensures { (result ≡ length (reached (port_way (decode table.now) p).says n (machines_from (type attribute) p (decode table.now) first))) × (result ≤ 64) }
+    ensures { (result ≡ length (reached (port_way (decode table.now) p).says n (machines_from (type_of attribute) p (decode table.now) first))) × (result ≤ 64) }
 {
     let count = declarers(table, p, attribute);
     let mut left = n;
     let mut past: usize = 0;
-    let mut k = first;
-    while k < count {
-        let here = k;
-        k += 1;
-        if !declares(table, here, p, attribute) {
+    for k in first..count {
+        if !declares(table, k, p, attribute) {
             continue;
         }
-        if !says(table, here, p, attribute) {
-            past += 1;
-            continue;
+        if says(table, k, p, attribute) {
+            if left == 0 {
+                return past;
+            }
+            left -= 1;
         }
-        if left == 0 {
-            return past;
-        }
-        left -= 1;
         past += 1;
     }
     past
@@ -403,13 +335,13 @@ fn copy_offer(table: &[u8], k: usize, p: usize, from: usize, out: &mut [u8])
 {
     let sends = table::sends_at(table, k, p);
     let end = from + out.len();
-    octets::copy(&sends[from..end], out);
+    out.copy_from_slice(&sends[from..end]);
 }
 
 // The vector of a Talker, whose values are so many octets of what is sent, from a place on.
-fn write_talker(table: &[u8], k: usize, p: usize, from: usize, event: u8, out: &mut [u8])
-    requires { TalkerIn table.now k p from (length out.old - (3 + in_first_value.destination)) out.old × (event ≤ 5) }
-    ensures { out.new ≡ talker_vector from (length out.old - (3 + in_first_value.destination)) event p (stream_at k (decode table.now)) }
+fn write_talker(table: &[u8], k: usize, p: usize, from: usize, event: Event, out: &mut [u8])
+    requires { TalkerIn table.now k p from (length out.old - (3 + in_first_value.destination)) out.old }
+    ensures { out.new ≡ talker_vector from (length out.old - (3 + in_first_value.destination)) (event_number event) p (stream_at k (decode table.now)) }
 {
     let more = out.len() - (BEHIND_ID + EVENTS);
     begin_vector(1, table::id_at(table, k), out);
@@ -418,9 +350,9 @@ fn write_talker(table: &[u8], k: usize, p: usize, from: usize, event: u8, out: &
 }
 
 // The vector of the Domain value of slot k: class ID, priority, VLAN.
-fn write_domain(table: &[u8], k: usize, event: u8, out: &mut [u8])
-    requires { Laid table.now × (k < 16) × (event ≤ 5) × (length out.old ≡ 2 + domain_length + 1) }
-    ensures { out.new ≡ domain_vector (decode table.now).settings event k }
+fn write_domain(table: &[u8], k: usize, event: Event, out: &mut [u8])
+    requires { Laid table.now × (k < 16) × (length out.old ≡ 2 + domain_length + 1) }
+    ensures { out.new ≡ domain_vector (decode table.now).settings (event_number event) k }
 {
     let slot = k as u64;
     octets::put(out, 0, FIRST, 1);
@@ -442,8 +374,8 @@ fn write_domain(table: &[u8], k: usize, event: u8, out: &mut [u8])
 
 // The vector of what is said of a type by the declarer at place k; Listeners are packed instead.
 fn write_vector(table: &[u8], k: usize, p: usize, attribute: Attribute, out: &mut [u8])
-    requires { VectorIn table.now k p (type attribute) out.old }
-    ensures { out.new ≡ vectors (said_by (type attribute) p (decode table.now) k) }
+    requires { VectorIn table.now k p (type_of attribute) out.old }
+    ensures { out.new ≡ vectors (said_by (type_of attribute) p (decode table.now) k) }
 {
     let event = event_of(table, k, p, attribute);
     match attribute {
@@ -464,23 +396,22 @@ pub struct Run {
 
 // The vectors of a run.
 fn write_vectors(table: &[u8], p: usize, run: Run, out: &mut [u8])
-    requires { RunIn table.now p run × (length out.old ≡ run.count * vector_size (type run.attribute)) }
+    requires { RunIn table.now p run × (length out.old ≡ run.count * vector_size (type_of run.attribute)) }
     ensures { out.new ≡ vectors (run_of table.now p run) }
 {
     let attribute = run.attribute;
     let size = vector_size(attribute);
     let mut left = run.count;
     let mut at: usize = 0;
-    let mut k = run.first;
-    while 0 < left {
-        let here = k;
-        k += 1;
-        if !says(table, here, p, attribute) {
-            continue;
+    for k in run.first..declarers(table, p, attribute) {
+        if left == 0 {
+            return;
         }
-        write_vector(table, here, p, attribute, &mut out[at..at + size]);
-        at += size;
-        left -= 1;
+        if says(table, k, p, attribute) {
+            write_vector(table, k, p, attribute, &mut out[at..at + size]);
+            at += size;
+            left -= 1;
+        }
     }
 }
 
@@ -498,7 +429,7 @@ fn announce(table: &[u8], p: usize, out: &mut [u8])
 // The Message around vectors that stand in their place: header, and the list's EndMark.
 fn close_message(attribute: Attribute, out: &mut [u8])
     requires { 6 ≤ length out.old }
-    ensures { out.new ≡ message_of (type attribute) (part 4 (length out.old - 6) out.old ++ (0 ∷ 0 ∷ [])) }
+    ensures { out.new ≡ message_of (type_of attribute) (part 4 (length out.old - 6) out.old ++ (0 ∷ 0 ∷ [])) }
 {
     let list = out.len() - AROUND;
     octets::put(out, 0, 2, type_and_length(attribute));
@@ -509,7 +440,7 @@ fn close_message(attribute: Attribute, out: &mut [u8])
 // The same with LeaveAll in the first vector, where the write carries it.
 fn finish(table: &[u8], p: usize, attribute: Attribute, out: &mut [u8])
     requires { PortIn table.now p × (8 ≤ length out.old) }
-    ensures { out.new ≡ message_of (type attribute) (announced (leaves_all (decode table.now) p) (part 4 (length out.old - 6) out.old) ++ (0 ∷ 0 ∷ [])) }
+    ensures { out.new ≡ message_of (type_of attribute) (announced (leaves_all (decode table.now) p) (part 4 (length out.old - 6) out.old) ++ (0 ∷ 0 ∷ [])) }
 {
     let list = out.len() - AROUND;
     announce(table, p, &mut out[HEADER..HEADER + list]);
@@ -518,8 +449,8 @@ fn finish(table: &[u8], p: usize, attribute: Attribute, out: &mut [u8])
 
 // The Message of a run.
 fn write_message(table: &[u8], p: usize, run: Run, out: &mut [u8])
-    requires { RunIn table.now p run × (length out.old ≡ 6 + run.count * vector_size (type run.attribute)) }
-    ensures { out.new ≡ message (leaves_all (decode table.now) p) (type run.attribute) (run_of table.now p run) }
+    requires { RunIn table.now p run × (length out.old ≡ 6 + run.count * vector_size (type_of run.attribute)) }
+    ensures { out.new ≡ message (leaves_all (decode table.now) p) (type_of run.attribute) (run_of table.now p run) }
 {
     let attribute = run.attribute;
     let list = out.len() - AROUND;
@@ -551,8 +482,8 @@ pub struct Message {
 
 // The Message of a type of which nothing is said, behind so many octets: none, but with LeaveAll one of a vector without values.
 fn write_none(table: &[u8], p: usize, attribute: Attribute, at: usize, buffer: &mut [u8]) -> Message
-    requires { MessageIn table.now p (type attribute) at buffer.old }
-    ensures { MessageWritten (leaves_all (decode table.now) p) (type attribute) [] at buffer.old result buffer.new }
+    requires { MessageIn table.now p (type_of attribute) at buffer.old }
+    ensures { MessageWritten (leaves_all (decode table.now) p) (type_of attribute) [] at buffer.old result buffer.new }
 {
     let size = empty_size(attribute, leaves_all(table, p));
     if size == 0 {
@@ -568,8 +499,8 @@ fn write_none(table: &[u8], p: usize, attribute: Attribute, at: usize, buffer: &
 
 // The Message of those that fit, of all that is said of a type from a place on, one per vector.
 fn take_run(table: &[u8], p: usize, run: Run, at: usize, buffer: &mut [u8]) -> Message
-    requires { MessageIn table.now p (type run.attribute) at buffer.old × RestIn table.now p run × Single (type run.attribute) }
-    ensures { MessageWritten (leaves_all (decode table.now) p) (type run.attribute) (said_from (type run.attribute) p (decode table.now) run.first) at buffer.old result buffer.new }
+    requires { MessageIn table.now p (type_of run.attribute) at buffer.old × RestIn table.now p run × Single (type_of run.attribute) }
+    ensures { MessageWritten (leaves_all (decode table.now) p) (type_of run.attribute) (said_from (type_of run.attribute) p (decode table.now) run.first) at buffer.old result buffer.new }
 {
     let attribute = run.attribute;
     let size = vector_size(attribute);
@@ -597,15 +528,14 @@ fn gather(table: &[u8], p: usize, first: usize, places: &mut [u8])
     ensures { Placed table.now p first places.new }
 {
     let mut n: usize = 0;
-    let mut k = first;
-    while n < places.len() {
-        let here = k;
-        k += 1;
-        if !says(table, here, p, Attribute::Listener) {
-            continue;
+    for k in first..declarers(table, p, Attribute::Listener) {
+        if n == places.len() {
+            return;
         }
-        places[n] = here as u8;
-        n += 1;
+        if says(table, k, p, Attribute::Listener) {
+            places[n] = k as u8;
+            n += 1;
+        }
     }
 }
 
@@ -617,41 +547,37 @@ fn listener_number(table: &[u8], p: usize, places: &[u8], i: usize) -> u8
     sent_octet(table, places[i] as usize, p, table::sends::LISTENED)
 }
 
-fn listener_event(table: &[u8], p: usize, places: &[u8], i: usize) -> u8
+fn listener_event(table: &[u8], p: usize, places: &[u8], i: usize) -> Event
     requires { Telling table.now p places.now × (i < length places.now) }
-    ensures { (result ≡ (listener_at p (decode table.now) (get_or places.now i 0)).event) × (result ≤ 5) }
+    ensures { event_number result ≡ (listener_at p (decode table.now) (get_or places.now i 0)).event }
 {
     event_of(table, places[i] as usize, p, Attribute::Listener)
 }
 
 // An event at position i of three packed ones; a declaration type at position i of four packed ones.
-fn event_at(event: u8, i: usize) -> u8
-    requires { (event ≤ 5) × (i < 3) }
-    ensures { result ≡ event * three_unit i }
+#[tactic(auto, unfolding(crate::specs::Packed::three_unit))]
+fn event_at(event: Event, i: usize) -> u8
+    requires { i < 3 }
+    ensures { result ≡ event_number event * three_unit i }
 {
-    if i == 0 {
-        return event * 36;
+    match i {
+        0 => event as u8 * 36,
+        1 => event as u8 * 6,
+        _ => event as u8,
     }
-    if i == 1 {
-        return event * 6;
-    }
-    event
 }
 
+#[tactic(auto, unfolding(crate::specs::Packed::four_unit))]
 fn type_at(number: u8, i: usize) -> u8
     requires { (number ≤ 3) × (i < 4) }
     ensures { result ≡ number * four_unit i }
 {
-    if i == 0 {
-        return number * 64;
+    match i {
+        0 => number * 64,
+        1 => number * 16,
+        2 => number * 4,
+        _ => number,
     }
-    if i == 1 {
-        return number * 16;
-    }
-    if i == 2 {
-        return number * 4;
-    }
-    number
 }
 
 // The packed events of a part: event and declaration type of each Listener, at the position of its StreamID.
@@ -663,8 +589,7 @@ fn write_values(table: &[u8], p: usize, places: &[u8], out: &mut [u8])
     let threes = ((cutting::values_of(table, places) + 2) / 3) as usize;
     let all = out.len();
     octets::clear(out, 0, all);
-    let mut i: usize = 0;
-    while i < places.len() {
+    for i in 0..places.len() {
         let at = (cutting::id_of(table, places, i) - first) as usize;
         let three = at / 3;
         let event = listener_event(table, p, places, i);
@@ -672,7 +597,6 @@ fn write_values(table: &[u8], p: usize, places: &[u8], out: &mut [u8])
         let four = threes + at / 4;
         let number = listener_number(table, p, places, i);
         out[four] = out[four] + type_at(number, at % 4);
-        i += 1;
     }
 }
 
@@ -687,7 +611,7 @@ fn write_part(table: &[u8], p: usize, places: &[u8], out: &mut [u8])
     write_values(table, p, places, &mut out[BEHIND_ID..BEHIND_ID + events]);
 }
 
-// The vectors of Listeners, cut as planned.
+// The vectors of Listeners, cut as planned: a step goes on by a part's places, so that no range or iterator has the steps.
 fn write_parts(table: &[u8], p: usize, places: &[u8], firsts: &[u8], out: &mut [u8])
     requires { CutIn table.now p places.now firsts.now (length out.old) }
     ensures { out.new ≡ packed_vectors (listeners_at p table.now places.now) }
@@ -759,9 +683,10 @@ fn take_listeners(
 }
 
 // The Message of those that fit, of all that is said of a type from a place on.
+// Room for the places of 64 streams, as there is no heap; what is handed on is as long as there is something to say.
 fn take(table: &[u8], p: usize, run: Run, at: usize, buffer: &mut [u8]) -> Message
-    requires { MessageIn table.now p (type run.attribute) at buffer.old × RestIn table.now p run }
-    ensures { MessageWritten (leaves_all (decode table.now) p) (type run.attribute) (said_from (type run.attribute) p (decode table.now) run.first) at buffer.old result buffer.new }
+    requires { MessageIn table.now p (type_of run.attribute) at buffer.old × RestIn table.now p run }
+    ensures { MessageWritten (leaves_all (decode table.now) p) (type_of run.attribute) (said_from (type_of run.attribute) p (decode table.now) run.first) at buffer.old result buffer.new }
 {
     let attribute = run.attribute;
     match attribute {
@@ -793,8 +718,8 @@ fn pass_open(
     from: Progress,
     buffer: &mut [u8],
 ) -> Progress
-    requires { PassIn table.now p (type attribute) from buffer.old × (from.full ≡ false) }
-    ensures { PassLeaves table.now p (type attribute) from buffer.old result buffer.new }
+    requires { PassIn table.now p (type_of attribute) from buffer.old × (from.full ≡ false) }
+    ensures { PassLeaves table.now p (type_of attribute) from buffer.old result buffer.new }
 {
     let start = seek(table, p, attribute, from.skip);
     let first = start.first;
@@ -816,8 +741,8 @@ fn pass_open(
 
 // The pass of a type.
 fn pass(table: &[u8], p: usize, attribute: Attribute, from: Progress, buffer: &mut [u8]) -> Progress
-    requires { PassIn table.now p (type attribute) from buffer.old }
-    ensures { PassLeaves table.now p (type attribute) from buffer.old result buffer.new }
+    requires { PassIn table.now p (type_of attribute) from buffer.old }
+    ensures { PassLeaves table.now p (type_of attribute) from buffer.old result buffer.new }
 {
     if !from.full {
         return pass_open(table, p, attribute, from, buffer);

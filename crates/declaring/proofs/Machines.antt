@@ -2,11 +2,13 @@
 use mathlib.Core.Path.{◌≡◌, refl, sym, ◌∙◌, ap, ap₂}
 use mathlib.Core.List.{List, [], ◌∷◌, map, ◌++◌, append-nil}
 use mathlib.Core.Bool.{Bool, true, false, cond, ◌&&◌}
-use Prim.Native.Nat.{ℕ, suc, ◌+◌, ◌-◌, ◌≤◌}
+use Prim.Native.Nat.{ℕ, zero, suc, ◌+◌, ◌-◌, ◌≤◌}
 use native.Mathlib.Omega.{arith}
 use lib.ListN.{length, get_or, set, take, drop, length-drop}
+use borrow.Rule.Slice.PartMut.{put_mid}
 use lib.Seq.{drop-drop, drop-length, take-add, take_all, take-length}
 use lib.Dec.{eqb}
+use borrow.Author.Tests.{lt-leb}
 use Rattle.octets.specs.Parts.{patch, zeros}
 use Rattle.octets.specs.Pick.{pick}
 use Rattle.model.specs.Applicant.{Standing, very_anxious_passive, very_anxious_new, anxious_new, anxious_active, quiet_active, leaving_active, vo, join, lv, applicant_entry, standing, becomes, step}
@@ -15,27 +17,43 @@ use Rattle.model.specs.Sending.{standing_number, applicant_octets}
 use Rattle.model.proofs.Lists.{and_left, and_right}
 use Rattle.model.proofs.Valid.{GoodApplicant}
 use Rattle.model.proofs.ApplicantEntries.{tables}
+use Rattle.applicants.specs.Octets.{octet}
+use Rattle.applicants.specs.Octets as octets
+use Rattle.applicants.proofs.Octets.{step_read}
 use Rattle.declaring.specs.Octets.{same_octets, declared_state, declared_octets, left_octets, withdrawn_octets}
 use Rattle.declaring.proofs.Comparing.{same_self, same-all}
 
 -- Octets stored: zeros for all of them, and the state before the values.
 
-pub all-cleared : (s : List ℕ) → patch 0 (length s) (zeros (length s)) s ≡ zeros (length s)
+pub all_cleared : (s : List ℕ) → patch 0 (length s) (zeros (length s)) s ≡ zeros (length s)
 unfolding patch
-all-cleared s = rw (drop-length s, append-nil)
+all_cleared s = rw (drop-length s, append-nil)
 
-pub state-put : (s : List ℕ) (q : ℕ) → 1 ≤ length s → set s 0 q ≡ q ∷ drop 1 s
-state-put [] q h = absurd (omega arith)
-state-put (x ∷ s) q h = refl
+pub state_put : (s : List ℕ) (q : ℕ) → 1 ≤ length s → set s 0 q ≡ q ∷ drop 1 s
+state_put [] q h = absurd (omega arith)
+state_put (x ∷ s) q h = refl
+
+-- an octet above 6 is declared as LA is
+pub declared_read : (same : Bool) (n : ℕ) → declared_state same (octet (octets.applicant n)) ≡ declared_state same n
+unfolding declared_state pick octets.applicant tables
+declared_read true n = step_read false join n
+declared_read false zero = refl
+declared_read false (suc zero) = refl
+declared_read false (suc (suc zero)) = refl
+declared_read false (suc (suc (suc zero))) = refl
+declared_read false (suc (suc (suc (suc zero)))) = refl
+declared_read false (suc (suc (suc (suc (suc zero))))) = refl
+declared_read false (suc (suc (suc (suc (suc (suc n)))))) = rw (lt-leb (suc (suc (suc (suc (suc (suc n)))))) 1 (omega arith))
 
 -- the values copied behind it
-pub declared-put : (s v y : List ℕ) (q : ℕ) → length s ≡ suc (length v) → y ≡ v → q ≡ declared_state (same_octets v (take (1 + length v - 1) (drop 1 s))) (get_or s 0 0)
-    → take 1 (set s 0 q) ++ (y ++ drop (1 + length v - 1) (drop 1 (set s 0 q))) ≡ declared_octets v s
+pub declared_put : (s v y : List ℕ) (q : ℕ) → length s ≡ suc (length v) → y ≡ v
+    → q ≡ declared_state (same_octets v (take (length s - 1) (drop 1 s))) (get_or s 0 0)
+    → put_mid 1 (length (set s 0 q) - 1) (set s 0 q) y ≡ declared_octets v s
 unfolding declared_octets
-declared-put [] v y q h e g = absurd (omega arith)
-declared-put (x ∷ s) v y q h e g =
-    let same : 1 + length v - 1 ≡ length s = omega arith in
-    let whole : take (1 + length v - 1) s ≡ s = rw same (take-length s) in
+declared_put [] v y q h e g = absurd (omega arith)
+declared_put (x ∷ s) v y q h e g =
+    let same : suc (length s) - 1 ≡ length s = omega arith in
+    let whole : take (suc (length s) - 1) s ≡ s = rw same (take-length s) in
     rw (e, g, whole, same, drop-length s, append-nil v)
 
 -- A machine that is left as it is: Join! does not move it, and it has the values, in two parts; or Lv! does not move it.

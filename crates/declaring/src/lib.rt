@@ -8,66 +8,56 @@ ghost use Rattle.model.specs.State.{Fixed, Result};
 ghost use Rattle.model.specs.Sending.{sends_octets, to_sends, sender_octets, to_sender};
 ghost use Rattle.model.specs.Settling.{declare_sends};
 ghost use Rattle.model.specs.Laid.{LaidSends, LaidSender};
-ghost use Rattle.declaring.specs.Octets.{same_octets, declared_state, declared_octets, withdrawn_octets, decided_octets, Offered, Given, Told, timed};
+ghost use Rattle.applicants.specs.Octets.{octet};
+ghost use Rattle.declaring.specs.Octets.{declared_state, declared_octets, withdrawn_octets, decided_octets, Offered, Given, Told, timed};
 
-// Whether the values decided are those last declared; with no early exit, so that the compiler takes many octets at a time.
-fn is_same(values: &[u8], last: &[u8]) -> bool
-    requires { length last.now ≡ length values.now }
-    ensures { result ≡ same_octets values.now last.now }
-{
-    let mut same = true;
-    let mut i: usize = 0;
-    while i < values.len() {
-        same = same & (values[i] == last[i]);
-        i += 1;
-    }
-    same
-}
+use applicants::Applicant;
 
 // The state after Join!, where the content is the same, or in VP; else after New!.
-fn declared_state(state: u8, same: bool) -> u8
-    ensures { result ≡ declared_state same state }
+#[tactic(auto, unfolding(crate::specs::Octets::declared_state, octets::specs::Pick::pick))]
+fn declared_state(state: Applicant, same: bool) -> Applicant
+    ensures { octet result ≡ declared_state same (octet state) }
 {
-    if same {
-        return applicants::joined(state);
+    match state {
+        Applicant::None | Applicant::Vp => state.joined(),
+        _ if same => state.joined(),
+        _ => state.renewed(),
     }
-    if state <= applicants::VP {
-        return applicants::joined(state);
-    }
-    applicants::renewed(state)
 }
 
 // A machine declares the values.
+#[tactic(auto, using(crate::proofs::Machines::declared_put, crate::proofs::Machines::declared_read, crate::proofs::Comparing::compared))]
 fn declare(machine: &mut [u8], values: &[u8])
     requires { length machine.old ≡ suc (length values.now) }
     ensures { machine.new ≡ declared_octets values.now machine.old }
 {
-    let n = values.len();
-    let same = is_same(values, &machine[1..1 + n]);
-    let state = machine[0];
-    machine[0] = declared_state(state, same);
-    octets::copy(values, &mut machine[1..1 + n]);
+    let same = values == &machine[1..];
+    let state = Applicant::from(machine[0]);
+    machine[0] = declared_state(state, same) as u8;
+    machine[1..].copy_from_slice(values);
 }
 
 // A machine declares nothing: it has an unsent Lv, or goes.
+#[tactic(auto, using(applicants::proofs::Octets::step_read, applicants::proofs::Octets::none_read, crate::proofs::Machines::all_cleared, crate::proofs::Machines::state_put), unfolding(crate::specs::Octets::withdrawn_octets, crate::specs::Octets::left_octets, octets::specs::Pick::pick))]
 fn withdraw(machine: &mut [u8])
     requires { 1 ≤ length machine.old }
     ensures { machine.new ≡ withdrawn_octets machine.old }
 {
-    let state = machine[0];
-    if state == applicants::NONE {
+    let state = Applicant::from(machine[0]);
+    if state.is_none() {
         return;
     }
-    let next = applicants::left(state);
-    if next == applicants::NONE {
+    let next = state.left();
+    if next.is_none() {
         let n = machine.len();
         octets::clear(machine, 0, n);
         return;
     }
-    machine[0] = next;
+    machine[0] = next as u8;
 }
 
-// A machine after it was decided whether it declares the values.
+// A machine after it was decided whether it declares the values; a flag beside them, since they are at hand in either case.
+#[tactic(auto, unfolding(crate::specs::Octets::decided_octets, octets::specs::Pick::pick))]
 fn decide(machine: &mut [u8], values: &[u8], declared: bool)
     requires { length machine.old ≡ suc (length values.now) }
     ensures { machine.new ≡ decided_octets declared values.now machine.old }
@@ -104,20 +94,21 @@ pub fn declare_all(sends: &mut [u8], values: &[u8], column: u8, listener: u8)
 }
 
 // Whether a machine is left as it is: Join! does not move it, and it has the values, which come in two parts; or Lv! does not.
+// The flag stands beside the values as in decide: they are at hand in either case.
 fn is_steady(machine: &[u8], first: &[u8], rest: &[u8], declared: bool) -> bool
     requires { length machine.now ≡ suc (length first.now + length rest.now) }
     ensures { result ≡ true → decided_octets declared (first.now ++ rest.now) machine.now ≡ machine.now }
 {
-    let state = machine[0];
+    let state = Applicant::from(machine[0]);
     if declared {
-        if applicants::joined(state) != state {
+        if state.joined() as u8 != machine[0] {
             return false;
         }
         let n = 1 + first.len();
         let e = n + rest.len();
-        return is_same(first, &machine[1..n]) & is_same(rest, &machine[n..e]);
+        return (first == &machine[1..n]) & (rest == &machine[n..e]);
     }
-    applicants::left(state) == state
+    state.left() as u8 == machine[0]
 }
 
 // Whether all that a port sends of a stream is left as it is, by the stream's settled values and its result there.
@@ -128,27 +119,22 @@ pub fn stays(sends: &[u8], settled: &[u8], res: &[u8]) -> bool
 {
     let column = res[table::result::COLUMN];
     let listener = res[table::result::DECLARED];
-    if is_steady(
+    is_steady(
         &sends[0..table::sends::FAILING],
         settled,
         &res[table::result::LATENCY..table::result::BRIDGE_ID],
         column == 1,
-    ) {
-        if is_steady(
-            &sends[table::sends::FAILING..table::sends::LISTENING],
-            settled,
-            &res[table::result::LATENCY..table::result::ENTRY],
-            column == 2,
-        ) {
-            return is_steady(
-                &sends[table::sends::LISTENING..table::SENDS],
-                &settled[0..0],
-                &res[table::result::DECLARED..table::RESULT],
-                listener != 0,
-            );
-        }
-    }
-    false
+    ) && is_steady(
+        &sends[table::sends::FAILING..table::sends::LISTENING],
+        settled,
+        &res[table::result::LATENCY..table::result::ENTRY],
+        column == 2,
+    ) && is_steady(
+        &sends[table::sends::LISTENING..table::SENDS],
+        &settled[0..0],
+        &res[table::result::DECLARED..table::RESULT],
+        listener != 0,
+    )
 }
 
 // leavealltimer!, where the timer has run out.

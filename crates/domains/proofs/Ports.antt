@@ -1,14 +1,17 @@
 -- What the code finds and leaves among the octets of what a port holds.
 use mathlib.Core.Path.{◌≡◌, refl, sym, ap, ◌∙◌}
 use mathlib.Core.List.{List, [], ◌∷◌, ◌++◌, map}
-use mathlib.Core.Bool.{Bool, true, false}
-use Prim.Native.Nat.{ℕ, ◌+◌, ◌-◌, ◌≤◌, ◌<◌}
+use mathlib.Core.Bool.{Bool, true, false, not, ◌&&◌}
+use Prim.Native.Nat.{ℕ, zero, suc, ◌+◌, ◌-◌, ◌≤◌, ◌<◌}
 use native.Mathlib.Nat.{add-zero}
 use native.Mathlib.Numerals.{add-one}
 use native.Mathlib.Omega.{arith}
 use lib.ListN.{length, get_or, set, take, drop, length-drop, drop_of_length-le}
 use lib.Seq.{drop-cons, get_or-take, get_or-drop, length-take-le}
-use borrow.Author.Tests.{eq-eqb, ne_eqb}
+use borrow.Author.Tests.{eq-eqb, eqb-true}
+use lib.Dec.{eqb}
+use Rattle.std.specs.List.{list_any, range_with_len}
+use Rattle.std.proofs.lemmas.Bool.{false≢true}
 use Rattle.octets.specs.Be.{be}
 use Rattle.octets.specs.Parts.{part, patch}
 use Rattle.octets.specs.Fields.{flat, packed, width}
@@ -142,23 +145,28 @@ module _ (s : List ℕ) (from : ℕ) (k : ClassIn s from) where
               let one : get_or (domain_numbers here) slot_index.registered 0 ≡ 1 = rw p (unfold domain_numbers in refl) in
               absurd (omega (arith, one, octet, rw e at z))
 
-      pub any_here : (get_or s a 0 ≡ 0 → ⊥) → any_domain (drop q those) ≡ true
-      unfolding any_domain
-      any_here n = rw (one_left, held-here n)
+-- The numbers of the slots of a class, tested one after another.
+module _ (s : List ℕ) (from : ℕ) (k : ClassIn s from) where
+  abbrev held-at : ℕ → Bool
+  held-at q = not (eqb (get_or s (slot_in (from + q) + slot_index.registered) 0) 0)
 
-      pub any_next : get_or s a 0 ≡ 0 → any_domain (drop q those) ≡ any_domain (drop (q + 1) those)
-      any_next z = rw one_left (unfold any_domain in rw (free-here z))
+  held-is : (q : ℕ) → q < 8 → held-at q ≡ is_domain (get_or (to_own s).domains (from + q) no_domain)
+  held-is q h = go (eqb (get_or s (slot_in (from + q) + slot_index.registered) 0) 0) refl
+    where
+      go : (b : Bool) → eqb (get_or s (slot_in (from + q) + slot_index.registered) 0) 0 ≡ b → not b ≡ is_domain (get_or (to_own s).domains (from + q) no_domain)
+      go true e = sym (free-here s from k q h (slot_in (from + q) + slot_index.registered) (add-zero _) (eqb-true _ _ e))
+      go false e = sym (held-here s from k q h (slot_in (from + q) + slot_index.registered) (add-zero _) (λ z. false≢true (sym e ∙ eq-eqb _ _ z)))
 
-      module _ (own : ℕ) where
-        pub other-here : (get_or s a 0 ≡ 0 → ⊥) → (q ≡ own → ⊥) → other_priority own q (drop q those) ≡ true
-        unfolding other_priority
-        other-here n m = rw (one_left, held-here n, ne_eqb q own m)
+  pub any-those : (n q : ℕ) → q + n ≡ 8 → list_any held-at (range_with_len q n) ≡ any_domain (drop q (class_from from (to_own s).domains))
+  unfolding any_domain
+  any-those zero q h = let e : q ≡ 8 = omega arith in sym (rw (e, none_left s from k))
+  any-those (suc n) q h = rw (one_left s from k q (omega arith), held-is q (omega arith), any-those n (q + 1) (omega arith))
 
-        pub free-next : get_or s a 0 ≡ 0 → other_priority own q (drop q those) ≡ other_priority own (q + 1) (drop (q + 1) those)
-        free-next z = rw one_left (unfold other_priority in rw (free-here z, add-one q))
-
-        pub same_next : (get_or s a 0 ≡ 0 → ⊥) → q ≡ own → other_priority own q (drop q those) ≡ other_priority own (q + 1) (drop (q + 1) those)
-        same_next n m = rw one_left (unfold other_priority in rw (held-here n, eq-eqb q own m, add-one q))
+  pub others-those : (own n q : ℕ) → q + n ≡ 8
+      → list_any (λ i. held-at i && not (eqb i own)) (range_with_len q n) ≡ other_priority own q (drop q (class_from from (to_own s).domains))
+  unfolding other_priority
+  others-those own zero q h = let e : q ≡ 8 = omega arith in sym (rw (e, none_left s from k))
+  others-those own (suc n) q h = rw (one_left s from k q (omega arith), held-is q (omega arith), others-those own n (q + 1) (omega arith), add-one q)
 
 -- The flags.
 

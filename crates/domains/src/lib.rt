@@ -14,6 +14,7 @@ ghost use Rattle.domains.specs.Classes.{ClassIn, class_from, flagged};
 use table::slot::{HELD, LEAVES, VLAN};
 
 // Lv or LeaveAll: the value begins to leave, if it is registered.
+// Addresses have these lines at places of their own: what both share is cells::begin.
 pub fn quit(slot: &mut [u8], clock: u32)
     requires { LaidDomain slot.old × (length slot.old ≡ slot_size) }
     ensures { slot.new ≡ domain_octets (quit_domain clock (to_domain slot.old)) }
@@ -53,15 +54,14 @@ pub fn expire(slot: &mut [u8], leave: u32, time: u32)
 }
 
 // The same on each Domain value of a port.
+// By place: of what as_chunks_mut lends a proof knows no element.
 pub fn expire_all(own: &mut [u8], leave: u32, time: u32)
     requires { LaidOwn own.old × (length own.old ≡ own_size) }
     ensures { (st : Settings) → st.leave_time ≡ leave → own.new ≡ own_octets (change_domains (map (expire_domain st time)) (to_own own.old)) }
 {
-    let mut i: usize = 0;
-    while i < table::SLOTS {
+    for i in 0..table::SLOTS {
         let a = i * table::SLOT;
         expire(&mut own[a..a + table::SLOT], leave, time);
-        i += 1;
     }
 }
 
@@ -70,31 +70,16 @@ fn any_held(own: &[u8], from: usize) -> bool
     requires { ClassIn own.now from }
     ensures { result ≡ any_domain (class_from from (to_own own.now).domains) }
 {
-    let mut q: usize = 0;
-    while q < 8 {
-        if own[(from + q) * table::SLOT + HELD] != 0 {
-            return true;
-        }
-        q += 1;
-    }
-    false
+    (0..8).any(|q: usize| own[(from + q) * table::SLOT + HELD] != 0)
 }
 
 // Whether one of another priority is.
+// Two tests and not one, as there are two definitions: each is a closure of a line.
 fn other_priority(own: &[u8], from: usize, priority: u64) -> bool
     requires { ClassIn own.now from }
     ensures { result ≡ other_priority priority 0 (class_from from (to_own own.now).domains) }
 {
-    let mut q: usize = 0;
-    while q < 8 {
-        if own[(from + q) * table::SLOT + HELD] != 0 {
-            if q as u64 != priority {
-                return true;
-            }
-        }
-        q += 1;
-    }
-    false
+    (0..8).any(|q: usize| (own[(from + q) * table::SLOT + HELD] != 0) & (q as u64 != priority))
 }
 
 // Whether the port is at the edge of a class that it supports: no Domain value of the class is registered, or one of another priority.
@@ -103,10 +88,7 @@ pub fn unmatched(own: &[u8], from: usize, priority: u64) -> bool
     ensures { result ≡ (not (any_domain (class_from from (to_own own.now).domains))
         || other_priority priority 0 (class_from from (to_own own.now).domains)) }
 {
-    if any_held(own, from) {
-        return other_priority(own, from, priority);
-    }
-    true
+    !any_held(own, from) || other_priority(own, from, priority)
 }
 
 // The port's flags, of class A and of class B.

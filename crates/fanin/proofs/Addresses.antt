@@ -27,9 +27,10 @@ use Rattle.table.specs.Places.{Stands}
 use Rattle.table.specs.Reads.{fixed_octets}
 use Rattle.table.proofs.ByPlace.{stream-fits}
 use Rattle.streams.specs.Answers.{source_port}
-use Rattle.streams.specs.declared.SourceRead.TheVariants.{Nowhere, Port}
+use Rattle.std.specs.Prelude.{Some, None, is_some}
 use Rattle.streams.proofs.Fixed.{settled-values}
 use Rattle.fanin.specs.Failures.{address_of, has_address, any_from, shares_with, is_taken, failure_from, common_failure}
+use Rattle.fanin.specs.declared.CommonFailure.TheVariants.{SharedAddress, FanIn}
 use Rattle.fanin.specs.Places.{SettledTo}
 
 -- The octets of an address.
@@ -58,21 +59,15 @@ module _ {t : List ℕ} {k : ℕ} (w : Stands t k) where
       (fit-fixed (fixed_of (source_of x)) o.numbers o.rank).vlan
 
 -- Whether a source has an address, by the tests of the code.
-module _ (a : ℕ) where
-  pub another-address : (s : Source) → (address_of (fixed_of s) ≡ a → ⊥) → false ≡ has_address a s
-  unfolding has_address fixed_of
-  another-address nowhere n = refl
-  another-address (from o) n = sym (ne_eqb (address_of o.registration.fixed) a n)
+pub its_address : (wanted : ℕ) (s : Source) → address_of (fixed_of s) ≡ wanted → has_address wanted s ≡ is_some (source_port s)
+unfolding has_address fixed_of source_port
+its_address wanted nowhere e = refl
+its_address wanted (from o) e = eq-eqb (address_of o.registration.fixed) wanted e
 
-  pub its-address : (s : Source) (t : ℕ) → source_port s ≡ Port t → address_of (fixed_of s) ≡ a → true ≡ has_address a s
-  unfolding has_address fixed_of source_port
-  its-address nowhere t e q = let z : ◌≡◌ {A = ℕ} 0 1 = cc in absurd (omega arith)
-  its-address (from o) t e q = sym (eq-eqb (address_of o.registration.fixed) a q)
-
-  pub no_address : (s : Source) → source_port s ≡ Nowhere → false ≡ has_address a s
-  unfolding has_address source_port
-  no_address nowhere e = refl
-  no_address (from o) e = let z : ◌≡◌ {A = ℕ} 0 1 = cc in absurd (omega arith)
+pub another_address : (wanted : ℕ) (s : Source) → (address_of (fixed_of s) ≡ wanted → ⊥) → has_address wanted s ≡ false
+unfolding has_address fixed_of
+another_address wanted nowhere n = refl
+another_address wanted (from o) n = ne_eqb (address_of o.registration.fixed) wanted n
 
 pub asked-with : (b : Bridge) (k j wanted : ℕ) (r : Bool) → wanted ≡ address_of (fixed_of (source_of (stream_at k b))) → r ≡ has_address wanted (source_of (stream_at j b))
     → r ≡ shares_with b k j
@@ -186,7 +181,7 @@ record At (s : Source) (p : ℕ) : Type 0 where
   is : s ≡ from origin
   port : p ≡ origin.port
 
-found-at : (s : Source) (p : ℕ) → source_port s ≡ Port p → At s p
+found-at : (s : Source) (p : ℕ) → source_port s ≡ Some p → At s p
 unfolding source_port
 found-at nowhere p e = let z : ◌≡◌ {A = ℕ} 0 1 = cc in absurd (omega arith)
 found-at (from o) p e = record { origin = o; is = refl; port = cc }
@@ -198,23 +193,23 @@ module _ (t : List ℕ) (k : ℕ) (w : Stands t k) where
   abbrev stream : Stream
   stream = stream_at k (decode t)
 
-  nowhere-is : (s : Source) → source_port s ≡ Nowhere → s ≡ nowhere
+  nowhere-is : (s : Source) → source_port s ≡ None → s ≡ nowhere
   unfolding source_port
   nowhere-is nowhere e = refl
   nowhere-is (from o) e = let z : ◌≡◌ {A = ℕ} 0 1 = cc in absurd (omega arith)
 
-  pub no-failure : source_port (source_of stream) ≡ Nowhere → 0 ≡ common_failure sc stream
+  pub no-failure : source_port (source_of stream) ≡ None → None ≡ common_failure sc stream
   unfolding failure_from
   no-failure e = sym (rw (nowhere-is (source_of stream) e))
 
-  module _ (p : ℕ) (e : source_port (source_of stream) ≡ Port p) (taken : Bool) (g : taken ≡ is_taken (decode t) k) where
+  module _ (p : ℕ) (e : source_port (source_of stream) ≡ Some p) (taken : Bool) (g : taken ≡ is_taken (decode t) k) where
     abbrev found : At (source_of stream) p
     found = found-at (source_of stream) p e
 
     shares-is : shares sc.inbound record { id = stream.id; origin = found.origin } ≡ taken
     shares-is = shares-found k w found.origin found.is ∙ sym g
 
-    pub shared-failure : taken ≡ true → 5 ≡ common_failure sc stream
+    pub shared-failure : taken ≡ true → Some SharedAddress ≡ common_failure sc stream
     unfolding failure_from
     shared-failure h = sym (rw (found.is, shares-is, h))
 
@@ -224,10 +219,10 @@ module _ (t : List ℕ) (k : ℕ) (w : Stands t k) where
       kept-out-is =
           ap (λ (q : ℕ). not (may_bring sc.settings.fan_in sc.inbound q)) (sym found.port) ∙ ap not (sym m)
 
-      pub brings-in : may ≡ true → 0 ≡ common_failure sc stream
+      pub brings-in : may ≡ true → None ≡ common_failure sc stream
       unfolding failure_from
       brings-in h = sym (rw (found.is, shares-is, free, kept-out-is, h))
 
-      pub kept_out_lem : may ≡ false → 15 ≡ common_failure sc stream
+      pub kept_out_lem : may ≡ false → Some FanIn ≡ common_failure sc stream
       unfolding failure_from
       kept_out_lem h = sym (rw (found.is, shares-is, free, kept-out-is, h))

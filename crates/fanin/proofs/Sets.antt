@@ -19,7 +19,7 @@ use Rattle.model.specs.State.{Stream, fresh}
 use Rattle.model.specs.Settling.{Source, nowhere, from, source_of, is_source, Inbound, inbounds_of, is_inbound, inbound_below, may_bring}
 use Rattle.model.proofs.ComingIn.{inbound-more}
 use Rattle.streams.specs.Answers.{source_port, talker_port}
-use Rattle.streams.proofs.Sources.{port-bound}
+use Rattle.streams.proofs.Sources.{port_bound}
 use Rattle.fanin.specs.Sets.{set_to, includes, Placed}
 
 -- the bit of a place in an octet
@@ -115,8 +115,8 @@ included f nowhere w = set_same f (λ p. f p || false) 8 (λ p h. sym (or-false 
 included f (from o) w = put f o.port 8 w
 
 pub placed : (x : Stream) → length x.cells ≡ 8 → Placed (source_port (source_of x))
-unfolding source_port talker_port
-placed x l = go (source_of x) (port-bound x l)
+unfolding source_port
+placed x l = go (source_of x) (port_bound x l)
   where
     go : (s : Source) → talker_port s < 8 → Placed (source_port s)
     go nowhere h = tt

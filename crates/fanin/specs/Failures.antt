@@ -1,6 +1,8 @@
 -- What the search for a shared address finds, and the own failure that a stream has on every port alike.
-use Rattle.std.specs.Prelude.{Bool, false, cond, ◌||◌, ℕ, zero, suc, ◌+◌, ◌*◌, ◌^◌, eqb}
+use Rattle.std.specs.Prelude.{Option, Some, None, Bool, false, cond, ◌||◌, ℕ, zero, suc, ◌+◌, ◌*◌, ◌^◌, eqb}
 use Rattle.model.specs.State.{Fixed, Stream, Bridge, stream_at}
+use Rattle.fanin.specs.declared.CommonFailure.{CommonFailure}
+use Rattle.fanin.specs.declared.CommonFailure.TheVariants.{SharedAddress, FanIn}
 use Rattle.model.specs.Settling.{Scene, Source, nowhere, from, source_of, fixed_of, shares, is_kept_out}
 
 -- destination and VLAN as they stand beside each other
@@ -24,10 +26,12 @@ shares_with b k j = has_address (address_of (fixed_of (source_of (stream_at k b)
 abbrev pub is_taken : Bridge → ℕ → Bool
 is_taken b k = any_from (shares_with b k) 0 k
 
--- "Test 5, then 15": the code of the stream with StreamID n, or 0
-unfoldable pub failure_from : Scene → ℕ → Source → ℕ
-failure_from sc n nowhere = 0
-failure_from sc n (from o) = cond (shares sc.inbound record { id = n; origin = o }) 5 (cond (is_kept_out sc.settings.fan_in sc.inbound o) 15 0)
+-- "Test 5, then 15": that of the stream with StreamID n, if it has one
+unfoldable pub failure_from : Scene → ℕ → Source → Option CommonFailure
+failure_from sc n nowhere = None
+failure_from sc n (from o) =
+    cond (shares sc.inbound record { id = n; origin = o }) (Some SharedAddress)
+    (cond (is_kept_out sc.settings.fan_in sc.inbound o) (Some FanIn) None)
 
-abbrev pub common_failure : Scene → Stream → ℕ
+abbrev pub common_failure : Scene → Stream → Option CommonFailure
 common_failure sc x = failure_from sc x.id (source_of x)

@@ -101,4 +101,4 @@ module _ (clock leave : ℕ) (s : List ℕ) (h : length s ≡ cell_size) where
       (ap (λ (b : Bool). leb (get_or s in_cell.listener 0) 3 && b) (and_comm (not (eqb (get_or s in_cell.listener 0) 0)) _))
 
 -- what closes the needs of a cell's tests
-pub ruleset by-octets = (rules, registration-rules, no-talker, advertise-talker, failed-talker, listener-there, listener-leaving)
+pub ruleset by_octets = (rules, registration-rules, no-talker, advertise-talker, failed-talker, listener-there, listener-leaving)

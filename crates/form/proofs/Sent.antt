@@ -1,8 +1,8 @@
--- The rules of what a port sends of a stream in terms of its octets; and a loop over the ports.
+-- The rules of what a port sends of a stream in terms of its octets.
 use mathlib.Core.Path.{◌≡◌, refl, sym, ap, ◌∙◌}
 use mathlib.Core.List.{List}
 use mathlib.Core.Bool.{Bool, true, false, cond, not, ◌&&◌, and_assoc, and-true, and-false}
-use Prim.Native.Nat.{ℕ, zero, suc, ◌+◌, ◌-◌, ◌*◌, ◌%◌, ◌≤◌, ◌<◌}
+use Prim.Native.Nat.{ℕ, zero, suc, ◌-◌, ◌%◌, ◌≤◌}
 use native.Mathlib.Omega.{arith}
 use borrow.Author.Rules.{rules}
 use borrow.Author.Tests.{ne_eqb, le-leb, lt-leb}
@@ -12,15 +12,15 @@ use lib.Dec.{leb, eqb}
 use Rattle.octets.specs.Parts.{part}
 use Rattle.octets.specs.Fields.{fields}
 use Rattle.octets.proofs.Fields.{be_at-one}
-use Rattle.model.specs.Layout.{advertising_size, failing_size, in_result, in_sends, offer_size, result_size, sends_size}
+use Rattle.model.specs.Layout.{advertising_size, failing_size, in_result, in_sends, offer_size, sends_size}
 use Rattle.model.specs.Lists.{all_true, all_zero}
 use Rattle.model.specs.Machines.{no_applicant, applicant}
 use Rattle.model.specs.Settling.{is_advertise}
 use Rattle.model.specs.Sending.{to_standing, to_applicant, applicant_formed, both_formed, to_both, to_offer, to_failure, offer_formed, ready_in, ready_formed, failed_formed, to_sends, sends_formed}
 use Rattle.model.specs.Table.{to_column, result_from, to_result, is_standing, stands, is_failed, alike, sent_rules, sent_formed}
-use Rattle.form.specs.Asks.{stands_at, sent_as}
+use Rattle.form.specs.Asks.{stands_at, standing_as, sent_as, sent_beside}
 use Rattle.form.proofs.Stored.{declared-read}
-use Rattle.form.proofs.Beside.{two-by-two, Besides, BesidesLeft, all-besides, besides-more, no-besides}
+use Rattle.form.proofs.Ports.{two-by-two}
 
 -- A state.
 
@@ -39,50 +39,46 @@ stands_read from s = go (get_or s 0 0)
         let m = suc (suc (suc (suc (suc (suc n))))) in
         rw (ne_eqb m 0 (λ e. omega arith), le-leb 1 m (omega arith), lt-leb m 5 (omega arith))
 
--- An Applicant with what stands behind it: z is that this is zero, and r its rule.
+-- An Applicant whose values are zero, z, or keep their rule, k.
 
-abbrev formed_as : ℕ → Bool → Bool → Bool → Bool
-formed_as n z r decided = (leb n 6 && cond (eqb n 0) z r) && alike (leb 1 n && leb n 5) decided
+pub standing-none : (n : ℕ) (z k d : Bool) → n ≡ 0 → (z && not d) ≡ standing_as n z k d
+unfolding standing_as stands_at alike
+standing-none n z k d h = rw h
 
-decided-as : (n : ℕ) (z r : Bool) → (n ≡ 0 → ⊥) → (leb n 5 && r) ≡ formed_as n z r true
-unfolding alike
-decided-as zero z r h = absurd (h refl)
-decided-as (suc zero) z r h = sym (and-true r)
-decided-as (suc (suc zero)) z r h = sym (and-true r)
-decided-as (suc (suc (suc zero))) z r h = sym (and-true r)
-decided-as (suc (suc (suc (suc zero)))) z r h = sym (and-true r)
-decided-as (suc (suc (suc (suc (suc zero))))) z r h = sym (and-true r)
-decided-as (suc (suc (suc (suc (suc (suc n)))))) z r h =
+standing-true : (n : ℕ) (z k : Bool) → (n ≡ 0 → ⊥) → (leb n 5 && k) ≡ standing_as n z k true
+unfolding standing_as stands_at alike
+standing-true zero z k h = absurd (h refl)
+standing-true (suc zero) z k h = sym (and-true k)
+standing-true (suc (suc zero)) z k h = sym (and-true k)
+standing-true (suc (suc (suc zero))) z k h = sym (and-true k)
+standing-true (suc (suc (suc (suc zero)))) z k h = sym (and-true k)
+standing-true (suc (suc (suc (suc (suc zero))))) z k h = sym (and-true k)
+standing-true (suc (suc (suc (suc (suc (suc n)))))) z k h =
     let m = suc (suc (suc (suc (suc (suc n))))) in
-    rw (le-leb 1 m (omega arith), lt-leb m 5 (omega arith)) (sym (and-false (leb m 6 && cond (eqb m 0) z r)))
+    rw (le-leb 1 m (omega arith), lt-leb m 5 (omega arith)) (sym (and-false (leb m 6 && cond (eqb m 0) z k)))
 
-other-as : (n : ℕ) (z r : Bool) → (n ≡ 0 → ⊥) → (eqb n 6 && r) ≡ formed_as n z r false
-unfolding alike
-other-as zero z r h = absurd (h refl)
-other-as (suc zero) z r h = sym (and-false r)
-other-as (suc (suc zero)) z r h = sym (and-false r)
-other-as (suc (suc (suc zero))) z r h = sym (and-false r)
-other-as (suc (suc (suc (suc zero)))) z r h = sym (and-false r)
-other-as (suc (suc (suc (suc (suc zero))))) z r h = sym (and-false r)
-other-as (suc (suc (suc (suc (suc (suc zero)))))) z r h = sym (and-true r)
-other-as (suc (suc (suc (suc (suc (suc (suc n))))))) z r h =
+standing-false : (n : ℕ) (z k : Bool) → (n ≡ 0 → ⊥) → (eqb n 6 && k) ≡ standing_as n z k false
+unfolding standing_as stands_at alike
+standing-false zero z k h = absurd (h refl)
+standing-false (suc zero) z k h = sym (and-false k)
+standing-false (suc (suc zero)) z k h = sym (and-false k)
+standing-false (suc (suc (suc zero))) z k h = sym (and-false k)
+standing-false (suc (suc (suc (suc zero)))) z k h = sym (and-false k)
+standing-false (suc (suc (suc (suc (suc zero))))) z k h = sym (and-false k)
+standing-false (suc (suc (suc (suc (suc (suc zero)))))) z k h = sym (and-true k)
+standing-false (suc (suc (suc (suc (suc (suc (suc n))))))) z k h =
     let m = suc (suc (suc (suc (suc (suc (suc n)))))) in
     rw (ne_eqb m 6 (λ e. omega arith), lt-leb m 6 (omega arith))
 
-module _ (rule : List ℕ → Bool) (s : List ℕ) (decided : Bool) where
-  -- v is what the rule says
-  module _ (some : get_or s 0 0 ≡ 0 → ⊥) (v : Bool) (g : v ≡ rule (drop 1 s)) where
-    pub sent-decided : decided ≡ true → (leb (get_or s 0 0) 5 && v) ≡ sent_as rule s decided
-    unfolding sent_as applicant_formed stands_at
-    sent-decided e = rw (e, g) (decided-as (get_or s 0 0) (all_zero (drop 1 s)) (rule (drop 1 s)) some)
+pub standing-decided : (n : ℕ) (z k d : Bool) → (n ≡ 0 → ⊥) → d ≡ true → (leb n 5 && k) ≡ standing_as n z k d
+standing-decided n z k d h e = rw e (standing-true n z k h)
 
-    pub sent-other : decided ≡ false → (eqb (get_or s 0 0) 6 && v) ≡ sent_as rule s decided
-    unfolding sent_as applicant_formed stands_at
-    sent-other e = rw (e, g) (other-as (get_or s 0 0) (all_zero (drop 1 s)) (rule (drop 1 s)) some)
+pub standing-other : (n : ℕ) (z k d : Bool) → (n ≡ 0 → ⊥) → d ≡ false → (eqb n 6 && k) ≡ standing_as n z k d
+standing-other n z k d h e = rw e (standing-false n z k h)
 
-  pub sent-none : get_or s 0 0 ≡ 0 → (v : Bool) → v ≡ all_zero (drop 1 s) → (v && not decided) ≡ sent_as rule s decided
-  unfolding sent_as applicant_formed stands_at alike
-  sent-none h v g = rw (h, g)
+pub as-standing : (rule : List ℕ → Bool) (s : List ℕ) (d : Bool) → standing_as (get_or s 0 0) (all_zero (drop 1 s)) (rule (drop 1 s)) d ≡ sent_as rule s d
+unfolding standing_as sent_as applicant_formed
+as-standing rule s d = refl
 
 -- all that is behind the state
 pub behind-state : (n : ℕ) (s : List ℕ) → length s ≡ suc n → all_zero (part 1 n s) ≡ all_zero (drop 1 s)
@@ -94,13 +90,9 @@ pub offer-octet : (s : List ℕ) → eqb (get_or s 13 0 % 16) 0 ≡ offer_formed
 unfolding offer_formed fields
 offer-octet s = rw (← (be_at-one (drop 1 s) 12), get_or-drop 1 s 12 0)
 
-failed-octet : (s : List ℕ) → failed_formed s ≡ offer_formed s
+pub failed-octet : (s : List ℕ) → failed_formed s ≡ offer_formed s
 unfolding failed_formed both_formed offer_formed fields
 failed-octet s = rw (← (be_at-one (take offer_size s) 12), ← (be_at-one s 12), get_or-take offer_size s 12 0 (omega arith), and-true)
-
-pub sent-failed : (s : List ℕ) (decided : Bool) → sent_as offer_formed s decided ≡ sent_as failed_formed s decided
-unfolding sent_as applicant_formed
-sent-failed s decided = rw (failed-octet (drop 1 s))
 
 -- of a Listener
 module _ (s : List ℕ) (h : length s ≡ 2) where
@@ -139,8 +131,8 @@ pub sent-tests : (r s : List ℕ) → length s ≡ sends_size → (x y z : Bool)
     → x ≡ sent_as offer_formed (take (in_sends.failing - in_sends.advertising) (drop in_sends.advertising s)) (eqb (get_or r in_result.column 0) 1)
     → y ≡ sent_as failed_formed (take (in_sends.listening - in_sends.failing) (drop in_sends.failing s)) (leb 2 (get_or r in_result.column 0))
     → z ≡ sent_as ready_formed (take (sends_size - in_sends.listening) (drop in_sends.listening s)) (not (eqb (get_or r in_result.declared 0) 0))
-    → (x && y && z) ≡ (sends_formed s && sent_formed (to_result r) (to_sends s))
-unfolding sent_as sends_formed sent_formed sent_rules all_true to_sends
+    → (x && y && z) ≡ sent_beside r s
+unfolding sent_beside sent_as sends_formed sent_formed sent_rules all_true to_sends
 sent-tests r s h x y z e f g =
     let column : is_advertise (to_result r).column ≡ eqb (get_or r in_result.column 0) 1 =
     unfold to_result result_from fields in rw (column-advertise, ← (be_at-one r in_result.column)) in
@@ -166,25 +158,5 @@ sent-tests r s h x y z e f g =
     (applicant_formed ready_formed (drop failing_size (drop advertising_size s)))
     (alike (stands_at (get_or (drop failing_size (drop advertising_size s)) 0 0)) (not (eqb (get_or r in_result.declared 0) 0))))
 
--- A loop over the ports.
-
-module _ (k : ℕ) (results sent : List ℕ) where
-  abbrev pub SentLeft : Bool → ℕ → Type 0
-  SentLeft = BesidesLeft result_size sends_size to_result to_sends sends_formed sent_formed k results sent
-
-  pub all-sent : SentLeft true 0
-  all-sent = all-besides result_size sends_size to_result to_sends sends_formed sent_formed k results sent
-
-  module _ (ok : Bool) (p : ℕ) where
-    pub sent-more : k ≤ 8 → p < k → (t : Bool)
-        → t ≡ (sends_formed (take (p * sends_size + sends_size - p * sends_size) (drop (p * sends_size) sent))
-        && sent_formed (to_result (take (p * result_size + result_size - p * result_size) (drop (p * result_size) results)))
-        (to_sends (take (p * sends_size + sends_size - p * sends_size) (drop (p * sends_size) sent))))
-        → SentLeft ok p → SentLeft (ok && t) (p + 1)
-    sent-more = besides-more result_size sends_size to_result to_sends sends_formed sent_formed k results sent ok p
-
-    pub no-sent : k ≤ p → SentLeft ok p → ok ≡ Besides result_size sends_size to_result to_sends sends_formed sent_formed k results sent
-    no-sent = no-besides result_size sends_size to_result to_sends sends_formed sent_formed k results sent ok p
-
--- what closes the needs of such a loop: its start, its turns and its end
-pub ruleset turns = (rules, all-sent, sent-more, no-sent)
+-- what closes the tests of what a port sends of a stream
+pub ruleset by_octets = (rules, sent-tests)

@@ -9,13 +9,15 @@ use lib.Dec.{ltb, leb, eqb}
 use borrow.Author.Rules.{rules}
 use borrow.Author.Tests.{eqb-true, ne_eqb, lt-leb}
 use Rattle.octets.specs.Be.{be_at}
+use Rattle.octets.specs.Parts.{part}
 use Rattle.octets.specs.Fields.{fields}
 use Rattle.octets.proofs.Fields.{be_at-one}
-use Rattle.model.specs.Layout.{in_result, in_cell, result_size, result_widths}
+use Rattle.model.specs.Layout.{failure_size, in_result, in_cell, result_size, result_widths}
 use Rattle.model.specs.Lists.{all_true, all_zero, implies, bit}
 use Rattle.model.specs.State.{Column, none, advertise, failed, nothing, tells}
-use Rattle.model.specs.Table.{to_cell, to_column, to_entry, to_declared, result_from, to_result, result_formed, has_column, declares, for_listener, stored_rules, stored_formed}
+use Rattle.model.specs.Table.{to_cell, to_column, to_entry, to_declared, result_from, to_result, has_column, declares, for_listener, stored_rules, stored_formed}
 use Rattle.model.proofs.Cells.{talking-read, hearing-read}
+use Rattle.form.specs.Asks.{result_beside}
 use Rattle.form.proofs.Results.{no-column, advertised, failed-column}
 use Rattle.model.specs.WrittenFrames.{to_ready}
 
@@ -26,6 +28,11 @@ implies-not false b = refl
 implies-false : (a : Bool) → implies (not a) false ≡ a
 implies-false true = refl
 implies-false false = refl
+
+pub as_bit : (b : Bool) → cond b 1 0 ≡ bit b
+unfolding bit
+as_bit true = refl
+as_bit false = refl
 
 -- what a result's numbers say of it
 declares-read : (k : ℕ) → declares (to_declared k) ≡ not (eqb k 0)
@@ -77,7 +84,7 @@ module _ (clock n : ℕ) (c s : List ℕ) (h : length s ≡ result_size) (second
   Rest = leb second (clock / 100) && leb declared 3
 
   abbrev Formed : Bool
-  Formed = result_formed clock s && stored_formed n (to_cell c) (to_result s)
+  Formed = result_beside clock n c s
 
   abbrev numbers : List ℕ
   numbers = fields result_widths 0 s
@@ -116,19 +123,22 @@ module _ (clock n : ℕ) (c s : List ℕ) (h : length s ≡ result_size) (second
   -- b is what the cell's Talker counts
   pub none_kept : (z : Bool) → column ≡ 0 → z ≡ all_zero (take (in_result.entry - in_result.latency) (drop in_result.latency s))
       → (z && leb entry 1 && (not (eqb entry 0) || eqb second 0) && Rest && (eqb declared 0 || talks) && (eqb entry 0 || hears)) ≡ Formed
+  unfolding result_beside
   none_kept z k e = rw (no-column clock s h second aged z k e, stored-none k, and_assoc)
 
-  pub advertise-kept : (z : Bool) → column ≡ 1 → z ≡ all_zero (take (in_result.entry - in_result.bridge) (drop in_result.bridge s)) → (b : ℕ) → b ≡ bit talks
+  pub advertise-kept : (z : Bool) → column ≡ 1 → z ≡ all_zero (part in_result.bridge failure_size s) → (b : ℕ) → b ≡ cond talks 1 0
       → (z && leb entry 2 && leb 1 entry && Rest && (ltb b n && eqb declared 0) && (leb entry 1 || hears)) ≡ Formed
-  advertise-kept z k e b f = rw (advertised clock s h second aged z k e, stored-advertise k, f, and_assoc, and_assoc)
+  unfolding result_beside part
+  advertise-kept z k e b f = rw (advertised clock s h second aged z k e, stored-advertise k, f, as_bit, and_assoc, and_assoc)
 
-  pub failed-kept : (column ≡ 0 → ⊥) → (column ≡ 1 → ⊥) → (b : ℕ) → b ≡ bit talks
+  pub failed-kept : (column ≡ 0 → ⊥) → (column ≡ 1 → ⊥) → (b : ℕ) → b ≡ cond talks 1 0
       → (leb column 2 && eqb entry 1 && Rest && (ltb b n && eqb declared 0)) ≡ Formed
-  failed-kept k l b f = rw (← (failed-column clock s h second aged k l), f) (go (eqb entry 1) refl)
+  unfolding result_beside
+  failed-kept k l b f = rw (← (failed-column clock s h second aged k l), f, as_bit) (go (eqb entry 1) refl)
     where
       go : (t : Bool) → eqb entry 1 ≡ t → (leb column 2 && t && Rest && (ltb (bit talks) n && eqb declared 0)) ≡ (leb column 2 && t && Rest && stored_formed n (to_cell c) (to_result s))
       go true e = rw (stored-failed k l (eqb-true entry 1 e))
       go false e = rw and-false
 
 -- what closes the needs of a result's tests
-pub ruleset by-octets = (rules, none_kept, advertise-kept, failed-kept)
+pub ruleset by_octets = (rules, none_kept, advertise-kept, failed-kept)

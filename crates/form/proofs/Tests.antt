@@ -1,8 +1,11 @@
 -- Laws of tests: those that code takes together by `&` are a list of rules, and `|` asks for a test only where another holds.
 use mathlib.Core.Path.{◌≡◌, refl, sym, ◌∙◌}
-use mathlib.Core.Bool.{Bool, true, false, not, ◌&&◌, ◌||◌, and_assoc, and-true}
+use mathlib.Core.Bool.{Bool, true, false, not, ◌&&◌, ◌||◌, and_assoc, and-true, and-false}
 use mathlib.Core.List.{List, [], ◌∷◌}
 use Prim.Native.Nat.{ℕ, zero, suc}
+use native.Mathlib.Omega.{arith}
+use borrow.Author.Rules.{rules}
+use borrow.Author.Tests.{ne_eqb, le-leb, lt-leb, lt-ltb, le-ltb}
 use lib.ListN.{take, drop}
 use Rattle.model.specs.Lists.{all_true, implies}
 
@@ -26,3 +29,6 @@ unfolding all_true
 all-true-split zero l = refl
 all-true-split (suc n) [] = refl
 all-true-split (suc n) (b ∷ l) = rw (and_assoc, all-true-split n l)
+
+-- what decides tests of orders and of equality
+pub ruleset orders = (rules, arith, ne_eqb, le-leb, lt-leb, lt-ltb, le-ltb, and-true, and-false)

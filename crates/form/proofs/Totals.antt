@@ -1,23 +1,20 @@
--- Laws of `totals_within`, by which a loop compares one port's totals after another.
-use mathlib.Core.Path.{◌≡◌, refl, ap, ◌∙◌}
+-- The class totals of ports beside their settings, and those of places that are no port.
+use mathlib.Core.Path.{◌≡◌, refl, sym, ap, ◌∙◌}
 use mathlib.Core.List.{List, [], ◌∷◌}
-use mathlib.Core.Bool.{Bool, true, ◌&&◌, and-true}
-use Prim.Native.Nat.{ℕ, zero, suc, ◌+◌, ◌-◌, ◌*◌, ◌≤◌, ◌<◌}
-use native.Mathlib.Nat.{sub-zero}
+use mathlib.Core.Bool.{Bool, ◌&&◌, and_assoc, and-true}
+use Prim.Native.Nat.{ℕ, zero, suc, ◌*◌, ◌≤◌}
 use native.Mathlib.Omega.{arith}
-use borrow.Author.Rules.{rules}
 use lib.ListN.{length, take, drop, length-drop, take-append-drop}
 use lib.Seq.{take_all, length-take-le}
 use lib.Dec.{eqb}
 use Rattle.octets.specs.Be.{be_at}
 use Rattle.octets.specs.Parts.{part}
 use Rattle.octets.specs.Fields.{fields, width}
-use Rattle.octets.proofs.Parts.{lent-part}
-use Rattle.model.specs.Layout.{port_size, in_totals, total_size, totals_size, totals_widths}
+use Rattle.model.specs.Layout.{port_size, in_totals, total_size, totals_widths}
 use Rattle.model.specs.Lists.{all_zero, parts}
 use Rattle.model.specs.Table.{to_totals, to_port, totals_within}
-use Rattle.form.proofs.Left.{Left, left-more}
-use Rattle.form.proofs.EveryPart.{drop-part, one_left}
+use Rattle.form.specs.Asks.{all_pairs, within}
+use Rattle.form.proofs.Parts.{same, drop-parts}
 use Rattle.form.proofs.Zeros.{zero-append, zero-fields}
 
 both_zero : (x y : ℕ) → (eqb x 0 && eqb y 0) ≡ all_zero (x ∷ y ∷ [])
@@ -42,38 +39,16 @@ no-ports some (suc k) s h =
       take-append-drop total_size s,
     )
 
--- as one port's octets are compared
-abbrev within : Bool → List ℕ → List ℕ → Bool
-within some t q = totals_within some (to_totals t ∷ []) (to_port q ∷ [])
-
-module _ (some : Bool) (k : ℕ) (s q : List ℕ) where
-  abbrev rest : ℕ → Bool
-  rest p = totals_within some (parts total_size to_totals (8 - p) (drop (p * total_size) s)) (parts port_size to_port (k - p) (drop (p * port_size) q))
-
-  abbrev pub TotalsLeft : Bool → ℕ → Type 0
-  TotalsLeft = Left rest k (totals_within some (parts total_size to_totals 8 s) (parts port_size to_port k q))
-
-  pub all-totals : TotalsLeft true 0
-  all-totals = (omega arith, rw (sub-zero k))
-
-  module _ (ok : Bool) (p : ℕ) where
-    -- t is whether the totals of the port that was lent are within its limits
-    pub totals-more : k ≤ 8 → p < k → (t : Bool)
-        → t ≡ within some (take (p * total_size + total_size - p * total_size) (drop (p * total_size) s)) (take (p * port_size + port_size - p * port_size) (drop (p * port_size) q))
-        → TotalsLeft ok p → TotalsLeft (ok && t) (p + 1)
-    totals-more few h t e =
-        left-more rest k _ ok p t h
-        (rw (one_left 8 p (omega arith), one_left k p h, e, lent-part (p * total_size) total_size s, lent-part (p * port_size) port_size q, ← (drop-part total_size p s), ← (drop-part port_size p q))
-        unfold totals_within parts part in rw and-true)
-
-    -- the places that are no port
-    pub no-totals : k ≤ 8 → length s ≡ totals_size → k ≤ p → (t : Bool) → t ≡ all_zero (drop (k * total_size) s) → TotalsLeft ok p
-        → (ok && t) ≡ totals_within some (parts total_size to_totals 8 s) (parts port_size to_port k q)
-    unfolding parts
-    no-totals few whole h t e l =
-        let f : p ≡ k = omega arith in
-        let g : k - p ≡ 0 = omega arith in
-        rw (e, ← (no-ports some (8 - k) (drop (k * total_size) s) (omega (arith, length-drop (k * total_size) s)))) (rw (g, f) at l.1)
-
--- what closes the needs of such a loop: its start, its turns and its end
-pub ruleset turns = (rules, all-totals, totals-more, no-totals)
+pub pairs-totals : (some : Bool) (k j : ℕ) (ts qs : List ℕ) → k ≤ j → length ts ≡ j * total_size
+    → (all_pairs (within some) (parts total_size same k ts) (parts port_size same k qs) && all_zero (drop (k * total_size) ts))
+    ≡ totals_within some (parts total_size to_totals j ts) (parts port_size to_port k qs)
+unfolding within parts totals_within
+pairs-totals some zero j ts qs h l = sym (no-ports some j ts l)
+pairs-totals some (suc k) zero ts qs h l = absurd (omega arith)
+pairs-totals some (suc k) (suc j) ts qs h l =
+    rw (
+      ← (pairs-totals some k j (drop total_size ts) (drop port_size qs) (omega arith) (omega (arith, length-drop total_size ts))),
+      drop-parts total_size k ts,
+      and-true,
+      and_assoc,
+    )

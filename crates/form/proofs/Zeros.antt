@@ -1,22 +1,20 @@
 -- Laws of `all_zero`: octet by octet, and over fields.
 use mathlib.Core.Path.{◌≡◌, refl, sym, ap, ◌∙◌}
 use mathlib.Core.List.{List, [], ◌∷◌, ◌++◌}
-use mathlib.Core.Bool.{Bool, true, false, ◌&&◌, and_assoc, and-true}
-use Prim.Native.Nat.{ℕ, zero, suc, ◌+◌, ◌*◌, ◌<◌, ◌≤◌}
+use mathlib.Core.Bool.{Bool, false, ◌&&◌, and_assoc, and-true}
+use Prim.Native.Nat.{ℕ, zero, suc, ◌+◌, ◌*◌, ◌≤◌}
 use native.Mathlib.Nat.{zero-mul, zero-add}
-use native.Mathlib.Numerals.{add-one}
 use native.Mathlib.Omega.{arith}
-use borrow.Author.Rules.{rules}
-use lib.ListN.{length, get_or, take, drop, drop_of_length-le}
-use lib.Seq.{drop-cons, take-add, drop-drop}
+use lib.ListN.{length, get_or, take, drop}
+use lib.Seq.{take_all, take-add, drop-drop}
 use lib.Dec.{eqb}
 use borrow.Author.Tests.{eq-eqb, ne_eqb}
+use Rattle.std.specs.List.{list_all}
 use Rattle.octets.specs.Be.{be_at}
 use Rattle.octets.specs.Parts.{part}
 use Rattle.octets.specs.Fields.{fields, width}
 use Rattle.octets.proofs.Parts.{part_none, part-more}
 use Rattle.octets.proofs.Fields.{be_at-one}
-use Rattle.form.proofs.Left.{Left, left-more, left-none}
 use Rattle.model.specs.Lists.{all_zero}
 
 pub zero-append : (s t : List ℕ) → all_zero (s ++ t) ≡ (all_zero s && all_zero t)
@@ -75,23 +73,11 @@ zero-fields [] at s h = rw (part_none at s)
 zero-fields (w ∷ ws) at s h =
     rw (zero_number w s at (omega arith), zero-fields ws (at + w) s (omega arith)) (zero-parts at w (width ws) s)
 
--- A loop that tests one octet after another, from a place on.
-module _ (s : List ℕ) (start : ℕ) where
-  abbrev rest : ℕ → Bool
-  rest i = all_zero (drop i s)
+-- as a loop over the octets tests them
+each-zero : (s : List ℕ) → list_all (λ b. eqb b 0) s ≡ all_zero s
+unfolding all_zero
+each-zero [] = refl
+each-zero (b ∷ s) = ap (λ (c : Bool). eqb b 0 && c) (each-zero s)
 
-  abbrev pub ZerosLeft : Bool → ℕ → Type 0
-  ZerosLeft = Left rest (length s) (all_zero (drop start s))
-
-  pub all-zeros : start ≤ length s → ZerosLeft true start
-  all-zeros h = (h, refl)
-
-  module _ (clear : Bool) (i : ℕ) where
-    pub zeros-more : i < length s → ZerosLeft clear i → ZerosLeft (clear && eqb (get_or s i 0) 0) (i + 1)
-    zeros-more h = left-more rest (length s) _ clear i _ h (rw (add-one, drop-cons s i 0 h) unfold all_zero in refl)
-
-    pub no-zeros : length s ≤ i → ZerosLeft clear i → clear ≡ all_zero (drop start s)
-    no-zeros h = left-none rest (length s) _ clear i (rw (drop_of_length-le s h) unfold all_zero in refl)
-
--- what closes the needs of such a loop: its start, its turns and its end
-pub ruleset turns = (rules, all-zeros, zeros-more, no-zeros)
+pub zero_all : (i : ℕ) (s : List ℕ) → length s ≤ i → list_all (λ b. eqb b 0) (take i s) ≡ all_zero s
+zero_all i s h = rw (take_all i s h) (each-zero s)

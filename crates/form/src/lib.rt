@@ -1,19 +1,20 @@
 // The form rules of settings (number 11) and of the lent table (number 12): docs/TABLE.md has the layout and the rules. Each
 // function promises to be the definition of the same rules in the model. Rules are taken together by `&`, in the definition's
-// order, and no loop stops early: what is in form is tested whole anyway, and tests without an exit go many octets at a time.
+// order, and the loops over rules do not stop early: what is in form is tested whole anyway, and tests without an exit go many
+// octets at a time.
 #![tactic(auto)]
 
-ghost use Rattle.std.specs.Prelude.{◌≡◌, [], ◌∷◌, not, ◌&&◌, ◌||◌, ◌+◌, ◌*◌, ◌%◌, ◌≤◌, length, get_or, take, drop, leb, eqb};
+ghost use Rattle.std.specs.Prelude.{◌≡◌, Bool, List, ℕ, not, ◌&&◌, ◌||◌, ◌+◌, ◌*◌, ◌%◌, ◌≤◌, ◌<◌, length, get_or, take, drop, leb, eqb, count_by};
+ghost use Rattle.std.specs.List.{list_all, list_any};
 ghost use Rattle.octets.specs.Fields.{fields};
 ghost use Rattle.octets.specs.Parts.{part};
-ghost use Rattle.model.specs.Layout.{address_size, advertising_size, all_sends_size, applicant_size, cell_size, cell_widths, cells_size, failing_size, listening_size, name_widths, offer_size, own_size, port_place, port_size, in_table, record_size, result_size, in_record, sender_size, sends_size, slot_size, slots, slots_size, table_length, total_size};
-ghost use Rattle.model.specs.Lists.{all_true, all_zero, implies, parts, bit};
-ghost use Rattle.model.specs.Sending.{offer_formed, failed_formed, ready_formed, sends_formed, to_sends, domain_standing, slots_standing, sender_formed};
-ghost use Rattle.model.specs.Table.{every_part};
-ghost use Rattle.model.specs.Table.{ports_field, to_port, port_rule, settings_rules, settings_formed};
-ghost use Rattle.model.specs.Table.{leaving_rule, cell_rules, cell_formed, to_cell, result_formed, to_result, holds, talkers, declarers, domain_formed, address_formed, own_rules, own_formed, stored_formed, every_port, sends, sent_formed, stream_formed};
-ghost use Rattle.model.specs.Table.{to_totals, at_most, totals_within, any_holds, id_of, mac_of, rising, table_rules, formed};
-ghost use Rattle.form.specs.Asks.{TotalsGiven, ResultsGiven, SendsGiven, TableGiven, PortsGiven, CellsFound, sent_as, is_either, slot_if, senders_of};
+ghost use Rattle.model.specs.Layout.{advertising_size, applicant_size, cell_widths, failing_size, listening_size, name_widths, offer_size, port_place, in_table, in_record};
+ghost use Rattle.model.specs.Lists.{all_true, all_zero, implies, parts};
+ghost use Rattle.model.specs.Sending.{offer_formed, failed_formed, ready_formed, domain_standing, slots_standing, sender_formed};
+ghost use Rattle.model.specs.Table.{ports_field, port_rule, settings_rules, settings_formed};
+ghost use Rattle.model.specs.Table.{leaving_rule, cell_rules, cell_formed, domain_formed, address_formed, own_rules, own_formed, cells_part, holds, stream_formed};
+ghost use Rattle.model.specs.Table.{at_most, any_holds, count_field, records_part, table_rules, formed};
+ghost use Rattle.form.specs.Asks.{Tests, TestsPairs, Gives, all_pairs, IsHead, TableGiven, registers, sends_any, declares_any, standing_as, sent_as, result_beside, sent_beside, within, sender_beside, is_either, slot_if};
 
 use table::{
     ADDRESS, ADDRESSES, ADDRESSES_HELD, ALL_SENDS, BOUNDARY, BOUNDARY_B, CELL, CELLS, CLOCK, COUNT,
@@ -23,180 +24,69 @@ use table::{
     result, sender, sends, slot,
 };
 
-// What a truth value adds to a count.
-fn bit(b: bool) -> usize
-    ensures { (result ≡ bit b) × (result ≤ 1) }
+// The first count parts of SIZE octets, and what is behind them.
+fn split_parts<const SIZE: usize>(s: &[u8], count: usize) -> (&[[u8; SIZE]], &[u8])
+    requires sized { 0 < SIZE }
+    requires room { count * SIZE ≤ length s.now }
+    ensures parts { result.0.now ≡ parts SIZE (λ (o : List ℕ). o) count s.now }
+    ensures count { length result.0.now ≡ count }
+    ensures behind { result.1.now ≡ drop (count * SIZE) s.now }
 {
-    if b {
-        return 1;
-    }
-    0
+    let (chunks, _) = s.as_chunks::<SIZE>();
+    (&chunks[..count], &s[count * SIZE..])
 }
 
-// Every octet from a place on is zero.
-fn zero_from(s: &[u8], from: usize) -> bool
-    requires { from ≤ length s.now }
-    ensures { result ≡ all_zero (drop from s.now) }
+// Each of some parts keeps a rule.
+fn every<T, F: Fn(&T) -> bool>(parts: &[T], rule: F) -> bool
+    requires { F.IsAlwaysCallable rule }
+    ensures { (test : T → Bool) → Tests F.Fn rule test → result ≡ list_all test parts.now }
+{
+    let mut ok = true;
+    for part in parts {
+        ok &= rule(part);
+    }
+    ok
+}
+
+// Each of some parts keeps a rule beside the part at its place among others.
+fn every_pair<A, B, F: Fn(&A, &B) -> bool>(parts: &[A], others: &[B], rule: F) -> bool
+    requires same { length parts.now ≡ length others.now }
+    requires callable { F.IsAlwaysCallable rule }
+    ensures { (test : A → B → Bool) → TestsPairs F.Fn rule test → result ≡ all_pairs test parts.now others.now }
+{
+    let mut ok = true;
+    for (part, other) in parts.iter().zip(others) {
+        ok &= rule(part, other);
+    }
+    ok
+}
+
+// How many parts pass a test. By `filter` and `count`, which branch at each part, the rules of a full table take 4 % more instructions.
+fn count<T, F: Fn(&T) -> bool>(parts: &[T], test: F) -> usize
+    requires { F.IsAlwaysCallable test }
+    ensures { (t : T → Bool) → Tests F.Fn test t → result ≡ count_by t parts.now }
+{
+    let mut n = 0;
+    for part in parts {
+        n += usize::from(test(part));
+    }
+    n
+}
+
+// Every octet is zero.
+#[tactic(auto, using(crate::proofs::Zeros::zero_all))]
+fn is_zero(s: &[u8]) -> bool
+    ensures { result ≡ all_zero s.now }
 {
     let mut clear = true;
-    let mut i = from;
-    while i < s.len() {
-        clear = clear & (s[i] == 0);
-        i += 1;
+    for octet in s {
+        clear &= *octet == 0;
     }
     clear
 }
 
-// Not leaving, with no time; or leaving, since a time less than the leave time before the clock.
-fn leaving_formed(leaving: u8, since: u64, clock: u64, leave: u64) -> bool
-    ensures { result ≡ leaving_rule clock leave leaving since }
-{
-    if leaving == 0 {
-        return since == 0;
-    }
-    if clock < since {
-        return false;
-    }
-    if leave <= clock - since {
-        return false;
-    }
-    leaving == 1
-}
-
-// The rules of a Talker that is there, Advertise or Failed: its mark, its leaving and its priority octet.
-fn registration_formed(cell: &[u8], clock: u64, leave: u64) -> bool
-    requires { length cell.now ≡ cell_size }
-    ensures { result ≡ all_true (take 3 (drop 1 (cell_rules clock leave (fields cell_widths 0 cell.now)))) }
-{
-    let since = octets::get(cell, cell::TALKER_SINCE, 4);
-    (cell[cell::CHANGED] <= 1)
-        & leaving_formed(cell[cell::TALKER_LEAVES], since, clock, leave)
-        & (cell[cell::PRIORITY] % 16 == 0)
-}
-
-// The rules of a cell's Talker: without one all of it is zero, and an Advertise has no failure.
-fn talker_formed(cell: &[u8], clock: u64, leave: u64) -> bool
-    requires { length cell.now ≡ cell_size }
-    ensures { result ≡ all_true (take 6 (cell_rules clock leave (fields cell_widths 0 cell.now))) }
-{
-    let kind = cell[cell::TALKER];
-    if kind == 0 {
-        return zero_from(&cell[cell::CHANGED..cell::LISTENER], 0);
-    }
-    if kind == 1 {
-        return registration_formed(cell, clock, leave)
-            & zero_from(&cell[cell::BRIDGE_ID..cell::FAILURE_END], 0);
-    }
-    (kind <= 2) & registration_formed(cell, clock, leave)
-}
-
-// The rules of a cell's Listener: without one it is not leaving, and so has no time.
-fn listener_formed(cell: &[u8], clock: u64, leave: u64) -> bool
-    requires { length cell.now ≡ cell_size }
-    ensures { result ≡ all_true (drop 6 (cell_rules clock leave (fields cell_widths 0 cell.now))) }
-{
-    let kind = cell[cell::LISTENER];
-    let leaves = cell[cell::LISTENER_LEAVES];
-    let since = octets::get(cell, cell::LISTENER_SINCE, 4);
-    if leaves == 0 {
-        return (kind <= 3) & (since == 0);
-    }
-    (kind <= 3) & (kind != 0) & leaving_formed(leaves, since, clock, leave)
-}
-
-// The rules of a cell.
-fn cell_formed(cell: &[u8], clock: u64, leave: u64) -> bool
-    requires { length cell.now ≡ cell_size }
-    ensures { result ≡ cell_formed clock leave cell.now }
-{
-    talker_formed(cell, clock, leave) & listener_formed(cell, clock, leave)
-}
-
-// What the cells of a stream's ports are: whether each keeps its rules, whether none has a Talker or a Listener, and how many have a
-// Talker.
-#[derive(Clone, Copy)]
-struct Registered {
-    formed: bool,
-    none: bool,
-    talkers: usize,
-}
-
-// The cells of the ports, each tested and counted.
-fn cells_formed(cells: &[u8], ports: usize, clock: u64, leave: u64) -> Registered
-    requires { (length cells.now ≡ cells_size) × (ports ≤ 8) }
-    ensures { CellsFound cells.now ports clock leave result.formed result.none result.talkers }
-{
-    let mut formed = true;
-    let mut none = true;
-    let mut talkers: usize = 0;
-    let mut p: usize = 0;
-    while p < ports {
-        let a = p * CELL;
-        formed = formed & cell_formed(&cells[a..a + CELL], clock, leave);
-        none = none & ((cells[a + cell::TALKER] == 0) & (cells[a + cell::LISTENER] == 0));
-        talkers += bit(cells[a + cell::TALKER] != 0);
-        p += 1;
-    }
-    Registered {
-        formed,
-        none,
-        talkers,
-    }
-}
-
-// The rules of a result, by its column: no latency without one, no failure unless Failed, an entry for a column, forwarding for an
-// Advertise alone, and no second of an age without an entry or after the clock's. Beside its port's cell, where so many ports have a
-// Talker: a column only from another port's, a Listener declared only to this port's, and an entry for a Listener only where one is.
-fn result_formed(cell: &[u8], res: &[u8], clock: u64, talkers: usize) -> bool
-    requires { (length cell.now ≡ cell_size) × (length res.now ≡ result_size) }
-    ensures { result ≡ (result_formed clock res.now && stored_formed talkers (to_cell cell.now) (to_result res.now)) }
-{
-    let column = res[result::COLUMN];
-    let entry = res[result::ENTRY];
-    let declared = res[result::DECLARED];
-    let second = octets::get(res, result::AGE, 4);
-    let rest = (second <= clock / 100) & (declared <= 3);
-    if column == 0 {
-        return zero_from(&res[result::LATENCY..result::ENTRY], 0)
-            & (entry <= 1)
-            & ((entry != 0) | (second == 0))
-            & rest
-            & ((declared == 0) | (cell[cell::TALKER] != 0))
-            & ((entry == 0) | (cell[cell::LISTENER] != 0));
-    }
-    let apart = (bit(cell[cell::TALKER] != 0) < talkers) & (declared == 0);
-    if column == 1 {
-        return zero_from(&res[result::BRIDGE_ID..result::ENTRY], 0)
-            & (entry <= 2)
-            & (1 <= entry)
-            & rest
-            & apart
-            & ((entry <= 1) | (cell[cell::LISTENER] != 0));
-    }
-    (column <= 2) & (entry == 1) & rest & apart
-}
-
-// The result of each port keeps its rules, where so many ports have a Talker, and at most one port declares a Listener.
-fn results_formed(cells: &[u8], results: &[u8], ports: usize, clock: u64, talkers: usize) -> bool
-    requires { ResultsGiven cells.now results.now ports }
-    ensures { result ≡ (every_part result_size (result_formed clock) ports results.now
-        && every_port (stored_formed talkers) ports (parts cell_size to_cell 8 cells.now) (parts result_size to_result 8 results.now)
-        && leb (declarers ports (parts result_size to_result 8 results.now)) 1) }
-{
-    let mut ok = true;
-    let mut declarers: usize = 0;
-    let mut p: usize = 0;
-    while p < ports {
-        let a = p * CELL;
-        let b = p * RESULT;
-        ok = ok & result_formed(&cells[a..a + CELL], &results[b..b + RESULT], clock, talkers);
-        declarers += bit(results[b + result::DECLARED] != 0);
-        p += 1;
-    }
-    ok & (declarers <= 1)
-}
-
-// Nine octets from a place on are zero.
+// Nine octets from a place on are zero. With `is_zero` of so few, or without the early return, the rules of a full table take 9 % more
+// instructions.
 fn nine_zero(s: &[u8], at: usize) -> bool
     requires { at + 9 ≤ length s.now }
     ensures { result ≡ all_zero (part at 9 s.now) }
@@ -207,7 +97,180 @@ fn nine_zero(s: &[u8], at: usize) -> bool
     s[at + 8] == 0
 }
 
+// The clock and the leave time of a table.
+#[derive(Clone, Copy)]
+struct Times {
+    clock: u64,
+    leave: u64,
+}
+
+impl Times {
+    // Not leaving, with no time; or leaving, since a time less than the leave time before the clock.
+    #[tactic(auto, using(crate::proofs::Tests::orders), unfolding(model::specs::Table::leaving_rule))]
+    fn leaving_formed(self, leaving: u8, since: u64) -> bool
+        ensures { result ≡ leaving_rule self.clock self.leave leaving since }
+    {
+        if leaving == 0 {
+            return since == 0;
+        }
+        if self.clock < since {
+            return false;
+        }
+        if self.leave <= self.clock - since {
+            return false;
+        }
+        leaving == 1
+    }
+}
+
+// What the rules of the parts of a table read of its head: its ports, the slots of the Domain values of class A and of class B, and its
+// clock and leave time.
+#[derive(Clone, Copy)]
+struct Head {
+    ports: usize,
+    slot_a: usize,
+    slot_b: usize,
+    times: Times,
+}
+
+impl Head {
+    fn of(table: &[u8; LENGTH]) -> Head
+        ensures { IsHead table.now result }
+    {
+        let word = octets::get(table, HEAD, 3);
+        Head {
+            ports: (word / PORTS_UNIT) as usize,
+            slot_a: 8 + (word / PRIORITY_A_UNIT % 8) as usize,
+            slot_b: (word / PRIORITY_B_UNIT % 8) as usize,
+            times: Times {
+                clock: octets::get(table, CLOCK, 4),
+                leave: word % PRIORITY_B_UNIT,
+            },
+        }
+    }
+}
+
+// The rules of a Talker that is there, Advertise or Failed: its mark, its leaving and its priority octet.
+#[tactic(auto, using(crate::proofs::Cells::by_octets))]
+fn registration_formed(cell: &[u8; CELL], times: Times) -> bool
+    ensures { result ≡ all_true (take 3 (drop 1 (cell_rules times.clock times.leave (fields cell_widths 0 cell.now)))) }
+{
+    let since = octets::get(cell, cell::TALKER_SINCE, 4);
+    (cell[cell::CHANGED] <= 1)
+        & times.leaving_formed(cell[cell::TALKER_LEAVES], since)
+        & (cell[cell::PRIORITY] % 16 == 0)
+}
+
+// The rules of a cell's Talker: without one all of it is zero, and an Advertise has no failure.
+#[tactic(auto, using(crate::proofs::Cells::by_octets))]
+fn talker_formed(cell: &[u8; CELL], times: Times) -> bool
+    ensures { result ≡ all_true (take 6 (cell_rules times.clock times.leave (fields cell_widths 0 cell.now))) }
+{
+    let kind = cell[cell::TALKER];
+    if kind == 0 {
+        return is_zero(&cell[cell::CHANGED..cell::LISTENER]);
+    }
+    if kind == 1 {
+        return registration_formed(cell, times)
+            & is_zero(&cell[cell::BRIDGE_ID..cell::FAILURE_END]);
+    }
+    (kind <= 2) & registration_formed(cell, times)
+}
+
+// The rules of a cell's Listener: without one it is not leaving, and so has no time.
+#[tactic(auto, using(crate::proofs::Cells::by_octets))]
+fn listener_formed(cell: &[u8; CELL], times: Times) -> bool
+    ensures { result ≡ all_true (drop 6 (cell_rules times.clock times.leave (fields cell_widths 0 cell.now))) }
+{
+    let kind = cell[cell::LISTENER];
+    let leaves = cell[cell::LISTENER_LEAVES];
+    let since = octets::get(cell, cell::LISTENER_SINCE, 4);
+    if leaves == 0 {
+        return (kind <= 3) & (since == 0);
+    }
+    (kind <= 3) & (kind != 0) & times.leaving_formed(leaves, since)
+}
+
+// The rules of a cell.
+fn cell_formed(cell: &[u8; CELL], times: Times) -> bool
+    ensures { result ≡ cell_formed times.clock times.leave cell.now }
+{
+    talker_formed(cell, times) & listener_formed(cell, times)
+}
+
+// The rules of a result, by its column: no latency without one, no failure unless Failed, an entry for a column, forwarding for an
+// Advertise alone, and no second of an age without an entry or after the clock's. Beside its port's cell, where so many ports have a
+// Talker: a column only from another port's, a Listener declared only to this port's, and an entry for a Listener only where one is.
+#[tactic(auto, using(crate::proofs::Stored::by_octets))]
+fn result_formed(cell: &[u8; CELL], res: &[u8; RESULT], clock: u64, talkers: usize) -> bool
+    ensures { result ≡ result_beside clock talkers cell.now res.now }
+{
+    let column = res[result::COLUMN];
+    let entry = res[result::ENTRY];
+    let declared = res[result::DECLARED];
+    let second = octets::get(res, result::AGE, 4);
+    let rest = (second <= clock / 100) & (declared <= 3);
+    if column == 0 {
+        return is_zero(&res[result::LATENCY..result::ENTRY])
+            & (entry <= 1)
+            & ((entry != 0) | (second == 0))
+            & rest
+            & ((declared == 0) | (cell[cell::TALKER] != 0))
+            & ((entry == 0) | (cell[cell::LISTENER] != 0));
+    }
+    let apart = (usize::from(cell[cell::TALKER] != 0) < talkers) & (declared == 0);
+    if column == 1 {
+        return nine_zero(res, result::BRIDGE_ID)
+            & (entry <= 2)
+            & (1 <= entry)
+            & rest
+            & apart
+            & ((entry <= 1) | (cell[cell::LISTENER] != 0));
+    }
+    (column <= 2) & (entry == 1) & rest & apart
+}
+
+// The result of each port keeps its rules, where so many ports have a Talker, and at most one port declares a Listener.
+fn results_formed(
+    cells: &[[u8; CELL]],
+    results: &[[u8; RESULT]],
+    clock: u64,
+    talkers: usize,
+) -> bool
+    requires { length cells.now ≡ length results.now }
+    ensures { result ≡ (all_pairs (result_beside clock talkers) cells.now results.now && leb (count_by declares_any results.now) 1) }
+{
+    every_pair(
+        cells,
+        results,
+        |cell, res| result_formed(cell, res, clock, talkers),
+    ) & (count(results, |res| res[result::DECLARED] != 0) <= 1)
+}
+
+// An Applicant keeps its rules beside whether its declaration is decided: without a state its values are zero, where it is decided it
+// stands, and else it is an unsent Lv, and these keep the rules of its values.
+// The state stays an octet: a table under test may hold any, and Applicant::from reads those above 6 as LA.
+fn standing_formed<K: Fn() -> bool, Z: Fn() -> bool>(
+    state: u8,
+    decided: bool,
+    kept: K,
+    zero: Z,
+) -> bool
+    requires kept { K.IsAlwaysCallable kept }
+    requires zero { Z.IsAlwaysCallable zero }
+    ensures { (k z : Bool) → Gives K.Fn kept k → Gives Z.Fn zero z → result ≡ standing_as state z k decided }
+{
+    if state == 0 {
+        return zero() & !decided;
+    }
+    if decided {
+        return (state <= 5) & kept();
+    }
+    (state == 6) & kept()
+}
+
 // The values of a Talker, behind the state of its Applicant, are zero.
+// Eight octets and then nine, as at nine_zero: is_zero of so few takes more instructions.
 fn offer_zero(offer: &[u8]) -> bool
     requires { advertising_size ≤ length offer.now }
     ensures { result ≡ all_zero (part applicant_size offer_size offer.now) }
@@ -218,29 +281,17 @@ fn offer_zero(offer: &[u8]) -> bool
     nine_zero(offer, 9)
 }
 
-// The rules of the Applicant of a Talker that has a state, Advertise or Failed: it stands where that is decided, else it is an unsent
-// Lv; the spare bits of its priority octet are zero.
-fn offer_formed(offer: &[u8], decided: bool) -> bool
-    requires { (advertising_size ≤ length offer.now) × (get_or offer.now 0 0 ≡ 0 → ⊥) }
-    ensures { result ≡ sent_as offer_formed offer.now decided }
-{
-    let state = offer[0];
-    let spare = offer[1 + sends::PRIORITY] % 16 == 0;
-    if decided {
-        return (state <= 5) & spare;
-    }
-    (state == 6) & spare
-}
-
-// The rules of the Applicant of an Advertise: without a state all of it is zero.
+// The rules of the Applicant of an Advertise; the spare bits of its priority octet are zero.
 fn advertise_formed(offer: &[u8], decided: bool) -> bool
     requires { length offer.now ≡ advertising_size }
     ensures { result ≡ sent_as offer_formed offer.now decided }
 {
-    if offer[0] == 0 {
-        return offer_zero(offer) & !decided;
-    }
-    offer_formed(offer, decided)
+    standing_formed(
+        offer[0],
+        decided,
+        || offer[1 + sends::PRIORITY] % 16 == 0,
+        || offer_zero(offer),
+    )
 }
 
 // And of a Failed.
@@ -248,33 +299,32 @@ fn failed_formed(offer: &[u8], decided: bool) -> bool
     requires { length offer.now ≡ failing_size }
     ensures { result ≡ sent_as failed_formed offer.now decided }
 {
-    if offer[0] == 0 {
-        return offer_zero(offer) & nine_zero(offer, 1 + sends::BRIDGE_ID) & !decided;
-    }
-    offer_formed(offer, decided)
+    standing_formed(
+        offer[0],
+        decided,
+        || offer[1 + sends::PRIORITY] % 16 == 0,
+        || offer_zero(offer) & nine_zero(offer, 1 + sends::BRIDGE_ID),
+    )
 }
 
-// And of a Listener: with a state it has a declaration type.
+// And of a Listener, with a declaration type.
 fn ready_formed(ready: &[u8], decided: bool) -> bool
     requires { length ready.now ≡ listening_size }
     ensures { result ≡ sent_as ready_formed ready.now decided }
 {
-    let state = ready[0];
     let kind = ready[1];
-    if state == 0 {
-        return (kind == 0) & !decided;
-    }
-    let known = (1 <= kind) & (kind <= 3);
-    if decided {
-        return (state <= 5) & known;
-    }
-    (state == 6) & known
+    standing_formed(
+        ready[0],
+        decided,
+        || (1 <= kind) & (kind <= 3),
+        || kind == 0,
+    )
 }
 
 // The rules of what a port sends of a stream, beside its result: a declaration stands exactly where the result has one.
-fn sent_formed(res: &[u8], sent: &[u8]) -> bool
-    requires { (length res.now ≡ result_size) × (length sent.now ≡ sends_size) }
-    ensures { result ≡ (sends_formed sent.now && sent_formed (to_result res.now) (to_sends sent.now)) }
+#[tactic(auto, using(crate::proofs::Sent::by_octets))]
+fn sent_formed(res: &[u8; RESULT], sent: &[u8; SENDS]) -> bool
+    ensures { result ≡ sent_beside res.now sent.now }
 {
     let column = res[result::COLUMN];
     advertise_formed(&sent[sends::ADVERTISING..sends::FAILING], column == 1)
@@ -282,168 +332,88 @@ fn sent_formed(res: &[u8], sent: &[u8]) -> bool
         & ready_formed(&sent[sends::LISTENING..SENDS], res[result::DECLARED] != 0)
 }
 
-// What each port sends of a stream keeps its rules.
-fn sends_formed(results: &[u8], sent: &[u8], ports: usize) -> bool
-    requires { SendsGiven results.now sent.now ports }
-    ensures { result ≡ (every_part sends_size sends_formed ports sent.now
-        && every_port sent_formed ports (parts result_size to_result 8 results.now) (parts sends_size to_sends 8 sent.now)) }
+// Some port has a registration: a Talker or a Listener.
+// Crate table asks the same of all eight places of a record: here it is the form rule's, of the ports alone.
+fn is_registered(cells: &[[u8; CELL]]) -> bool
+    ensures { result ≡ list_any registers cells.now }
 {
-    let mut ok = true;
-    let mut p: usize = 0;
-    while p < ports {
-        let a = p * RESULT;
-        let b = p * SENDS;
-        ok = ok & sent_formed(&results[a..a + RESULT], &sent[b..b + SENDS]);
-        p += 1;
-    }
-    ok
+    cells.iter().any(|cell| (cell[cell::TALKER] != 0) | (cell[cell::LISTENER] != 0))
 }
 
 // Some port sends of a stream: an Applicant that is not 0.
-fn is_sent(sent: &[u8], ports: usize) -> bool
-    requires { (length sent.now ≡ all_sends_size) × (ports ≤ 8) }
-    ensures { result ≡ sends ports sent.now }
+fn is_sent(sent: &[[u8; SENDS]]) -> bool
+    ensures { result ≡ list_any sends_any sent.now }
 {
-    let mut p: usize = 0;
-    while p < ports {
-        let a = p * SENDS;
-        if (sent[a + sends::ADVERTISING] != 0)
-            | (sent[a + sends::FAILING] != 0)
-            | (sent[a + sends::LISTENING] != 0)
-        {
-            return true;
-        }
-        p += 1;
-    }
-    false
+    sent.iter().any(|port| {
+        (port[sends::ADVERTISING] != 0)
+            | (port[sends::FAILING] != 0)
+            | (port[sends::LISTENING] != 0)
+    })
 }
 
 // A stream is held: by a registration, or else because a port sends of it.
-fn is_held(none: bool, sent: &[u8], ports: usize) -> bool
-    requires { (length sent.now ≡ all_sends_size) × (ports ≤ 8) }
-    ensures { result ≡ (not none || sends ports sent.now) }
+fn is_held(cells: &[[u8; CELL]], sent: &[[u8; SENDS]]) -> bool
+    ensures { result ≡ (list_any registers cells.now || list_any sends_any sent.now) }
 {
-    if none {
-        return is_sent(sent, ports);
-    }
-    true
+    is_registered(cells) || is_sent(sent)
 }
 
 // The settled values of a stream of which so many ports have a Talker: zero without one.
-fn settled_formed(rec: &[u8], talkers: usize) -> bool
-    requires { length rec.now ≡ record_size }
+fn settled_formed(rec: &[u8; RECORD], talkers: usize) -> bool
     ensures { result ≡ (eqb (get_or rec.now in_record.priority 0 % 16) 0
         && implies (eqb talkers 0) (all_zero (drop 1 (fields name_widths 0 rec.now)))) }
 {
     let spare = rec[SETTLED_PRIORITY] % 16 == 0;
     if talkers == 0 {
-        return spare & zero_from(&rec[SETTLED..CELLS], 0);
+        return spare & is_zero(&rec[SETTLED..CELLS]);
     }
     spare
 }
 
 // The rules of a stream record: what belongs to no port is zero.
-fn record_formed(rec: &[u8], ports: usize, clock: u64, leave: u64) -> bool
-    requires { (length rec.now ≡ record_size) × (ports ≤ 8) }
-    ensures { result ≡ stream_formed ports clock leave rec.now }
+fn record_formed(rec: &[u8; RECORD], ports: usize, times: Times) -> bool
+    requires { ports ≤ 8 }
+    ensures { result ≡ stream_formed ports times.clock times.leave rec.now }
 {
-    let cells = &rec[CELLS..RESULTS];
-    let results = &rec[RESULTS..ALL_SENDS];
-    let sent = &rec[ALL_SENDS..RECORD];
-    let held = cells_formed(cells, ports, clock, leave);
-    settled_formed(rec, held.talkers)
-        & held.formed
-        & is_held(held.none, sent, ports)
-        & zero_from(cells, ports * CELL)
-        & results_formed(cells, results, ports, clock, held.talkers)
-        & zero_from(results, ports * RESULT)
-        & sends_formed(results, sent, ports)
-        & zero_from(sent, ports * SENDS)
+    let (cells, behind_cells) = split_parts::<CELL>(&rec[CELLS..RESULTS], ports);
+    let (results, behind_results) = split_parts::<RESULT>(&rec[RESULTS..ALL_SENDS], ports);
+    let (sent, behind_sent) = split_parts::<SENDS>(&rec[ALL_SENDS..RECORD], ports);
+    let talkers = count(cells, |cell| cell[cell::TALKER] != 0);
+    settled_formed(rec, talkers)
+        & every(cells, |cell| cell_formed(cell, times))
+        & is_held(cells, sent)
+        & is_zero(behind_cells)
+        & results_formed(cells, results, times.clock, talkers)
+        & is_zero(behind_results)
+        & every_pair(results, sent, |res, sent| sent_formed(res, sent))
+        & is_zero(behind_sent)
 }
 
-// The first count stream records keep their rules.
-fn records_formed(records: &[u8], count: usize, ports: usize, clock: u64, leave: u64) -> bool
-    requires { (count * record_size ≤ length records.now) × (ports ≤ 8) }
-    ensures { result ≡ every_part record_size (stream_formed ports clock leave) count records.now }
+// A record has a registration on one of so many ports.
+fn has_registered(rec: &[u8; RECORD], ports: usize) -> bool
+    requires { ports ≤ 8 }
+    ensures { result ≡ holds ports (cells_part rec.now) }
 {
-    let mut ok = true;
-    let mut k: usize = 0;
-    while k < count {
-        let a = k * RECORD;
-        ok = ok & record_formed(&records[a..a + RECORD], ports, clock, leave);
-        k += 1;
-    }
-    ok
+    let (cells, _) = split_parts::<CELL>(&rec[CELLS..RESULTS], ports);
+    is_registered(cells)
 }
 
-// Some port has a registration: a Talker or a Listener.
-fn is_registered(cells: &[u8], ports: usize) -> bool
-    requires { (length cells.now ≡ cells_size) × (ports ≤ 8) }
-    ensures { result ≡ holds ports cells.now }
+// One of the records of a table has a registration on one of so many ports.
+fn any_registered(table: &[u8; LENGTH], ports: usize) -> bool
+    requires few { get_or table.now in_table.count 0 ≤ 64 }
+    requires few_ports { ports ≤ 8 }
+    ensures { result ≡ any_holds ports (count_field table.now) (records_part table.now) }
 {
-    let mut p: usize = 0;
-    while p < ports {
-        let a = p * CELL;
-        if (cells[a + cell::TALKER] != 0) | (cells[a + cell::LISTENER] != 0) {
-            return true;
-        }
-        p += 1;
-    }
-    false
-}
-
-// One of the first count records has a registration.
-fn any_registered(records: &[u8], count: usize, ports: usize) -> bool
-    requires { (count * record_size ≤ length records.now) × (ports ≤ 8) }
-    ensures { result ≡ any_holds ports count records.now }
-{
-    let mut k: usize = 0;
-    while k < count {
-        let a = k * RECORD + CELLS;
-        if is_registered(&records[a..a + 8 * CELL], ports) {
-            return true;
-        }
-        k += 1;
-    }
-    false
-}
-
-// The StreamIDs of the first count records rise.
-fn ids_rise(records: &[u8], count: usize) -> bool
-    requires { count * record_size ≤ length records.now }
-    ensures { result ≡ rising (parts record_size id_of count records.now) }
-{
-    let mut ok = true;
-    let mut k: usize = 0;
-    while k + 1 < count {
-        let a = k * RECORD;
-        ok = ok & (octets::get(records, a, 8) < octets::get(records, a + RECORD, 8));
-        k += 1;
-    }
-    ok
+    let (records, _) = split_parts::<RECORD>(&table[RECORDS..LENGTH], table[COUNT] as usize);
+    records.iter().any(|rec| has_registered(rec, ports))
 }
 
 // The five bits after a port's flags are zero.
-fn port_formed(port: &[u8]) -> bool
-    requires { length port.now ≡ port_size }
+#[tactic(auto, unfolding(model::specs::Table::port_rule))]
+fn port_formed(port: &[u8; PORT]) -> bool
     ensures { result ≡ port_rule port.now }
 {
     port[port::FLAGS] % 32 == 0
-}
-
-// The settings of each port keep their rule.
-fn ports_formed(ports: &[u8], count: usize) -> bool
-    requires { count * port_size ≤ length ports.now }
-    ensures { result ≡ every_part port_size port_rule count ports.now }
-{
-    let mut ok = true;
-    let mut p: usize = 0;
-    while p < count {
-        let a = p * PORT;
-        ok = ok & port_formed(&ports[a..a + PORT]);
-        p += 1;
-    }
-    ok
 }
 
 // The rules of settings, where there are octets for as many ports as they say; that number is tested first.
@@ -459,10 +429,11 @@ fn settings_rules(settings: &[u8]) -> bool
     }
     let vlan = octets::get(settings, VLAN, 2) % PRUNING_UNIT;
     let fan_in = octets::get(settings, FAN_IN, 1);
+    let (each, _) = split_parts::<PORT>(&settings[PORTS..], ports as usize);
     (1 <= ports)
         & (head / PRIORITY_A_UNIT % 8 != head / PRIORITY_B_UNIT % 8)
         & (1 <= head % PRIORITY_B_UNIT)
-        & ports_formed(&settings[PORTS..], ports as usize)
+        & every(each, |port| port_formed(port))
         & (1 <= vlan)
         & (vlan <= 4094)
         & (fan_in <= 8)
@@ -483,19 +454,17 @@ pub fn settings_formed(settings: &[u8]) -> bool
 }
 
 // What a class total may be: the limit in force, where some stream has a registration and the port supports the class.
+#[tactic(auto, unfolding(model::specs::Table::at_most))]
 fn at_most(some: bool, supports: bool, limit: u64) -> u64
     ensures { result ≡ at_most some supports limit }
 {
-    if some & supports {
-        return limit;
-    }
-    0
+    if some & supports { limit } else { 0 }
 }
 
 // Neither class total of a port is above what it may be, where some stream has a registration or none.
-fn total_within(totals: &[u8], port: &[u8], some: bool) -> bool
-    requires { (length totals.now ≡ total_size) × (length port.now ≡ port_size) }
-    ensures { result ≡ totals_within some (to_totals totals.now ∷ []) (to_port port.now ∷ []) }
+#[tactic(auto, unfolding(crate::specs::Asks::within, model::specs::Table::totals_within, model::specs::Table::to_totals, model::specs::Table::to_port, model::specs::Table::port_from, model::specs::Lists::is_one, octets::specs::Fields::fields))]
+fn total_within(totals: &[u8; TOTAL], port: &[u8; PORT], some: bool) -> bool
+    ensures { result ≡ within some totals.now port.now }
 {
     let total_a = octets::get(totals, 0, 5);
     let total_b = octets::get(totals, TOTAL_B, 6);
@@ -506,25 +475,8 @@ fn total_within(totals: &[u8], port: &[u8], some: bool) -> bool
         & (total_b <= at_most(some, flags / 64 % 2 == 1, limit_b))
 }
 
-// No class total is above what it may be, and places that are no port have none.
-fn totals_within(totals: &[u8], ports: &[u8], count: usize, some: bool) -> bool
-    requires { TotalsGiven totals.now ports.now count }
-    ensures { result ≡ totals_within some (parts total_size to_totals 8 totals.now) (parts port_size to_port count ports.now) }
-{
-    let mut ok = true;
-    let mut p: usize = 0;
-    while p < count {
-        let a = p * TOTAL;
-        let b = p * PORT;
-        ok = ok & total_within(&totals[a..a + TOTAL], &ports[b..b + PORT], some);
-        p += 1;
-    }
-    ok & zero_from(totals, count * TOTAL)
-}
-
 // The rules of the settings of a table; those of places that are no port are zero.
-fn header_formed(table: &[u8]) -> bool
-    requires { length table.now ≡ table_length }
+fn header_formed(table: &[u8; LENGTH]) -> bool
     ensures { result ≡ all_true (take 2 (table_rules table.now)) }
 {
     let settings = &table[0..CLOCK];
@@ -532,172 +484,111 @@ fn header_formed(table: &[u8]) -> bool
         return false;
     }
     let ports = (octets::get(settings, HEAD, 3) / PORTS_UNIT) as usize;
-    zero_from(settings, PORTS + ports * PORT)
+    let (_, behind) = split_parts::<PORT>(&table[PORTS..CLOCK], ports);
+    is_zero(behind)
 }
 
-// The rules of the class totals of a table.
-fn totals_formed(table: &[u8]) -> bool
-    requires { TableGiven table.now }
+// The rules of the class totals of a table; places that are no port have none.
+fn totals_formed(table: &[u8; LENGTH], head: Head) -> bool
+    requires { TableGiven table.now head }
     ensures { result ≡ all_true (take 1 (drop 2 (table_rules table.now))) }
 {
-    let count = table[COUNT] as usize;
-    let ports = (octets::get(table, HEAD, 3) / PORTS_UNIT) as usize;
-    let some = any_registered(&table[RECORDS..LENGTH], count, ports);
-    let settings = &table[0..CLOCK];
-    totals_within(&table[TOTALS..OWNS], &settings[PORTS..], ports, some)
+    let some = any_registered(table, head.ports);
+    let (totals, behind) = split_parts::<TOTAL>(&table[TOTALS..OWNS], head.ports);
+    let (ports, _) = split_parts::<PORT>(&table[PORTS..CLOCK], head.ports);
+    every_pair(
+        totals,
+        ports,
+        |totals, port| total_within(totals, port, some),
+    ) & is_zero(behind)
 }
 
 // The rules of a Domain value: one that is not registered is zero.
-fn slot_formed(slot: &[u8], clock: u64, leave: u64) -> bool
-    requires { length slot.now ≡ slot_size }
-    ensures { result ≡ domain_formed clock leave slot.now }
+#[tactic(auto, using(crate::proofs::Edges::by_octets))]
+fn slot_formed(slot: &[u8; SLOT], times: Times) -> bool
+    ensures { result ≡ domain_formed times.clock times.leave slot.now }
 {
     let held = slot[slot::HELD];
     let leaves = slot[slot::LEAVES];
     let since = octets::get(slot, slot::SINCE, 4);
     let vlan = octets::get(slot, slot::VLAN, 2);
     (held <= 1)
-        & leaving_formed(leaves, since, clock, leave)
+        & times.leaving_formed(leaves, since)
         & ((held != 0) | ((leaves == 0) & (since == 0) & (vlan == 0)))
 }
 
-// Each Domain value of a port keeps its rules.
-fn slots_formed(values: &[u8], clock: u64, leave: u64) -> bool
-    requires { length values.now ≡ slots_size }
-    ensures { result ≡ every_part slot_size (domain_formed clock leave) slots values.now }
-{
-    let mut ok = true;
-    let mut i: usize = 0;
-    while i < SLOTS {
-        let a = i * SLOT;
-        ok = ok & slot_formed(&values[a..a + SLOT], clock, leave);
-        i += 1;
-    }
-    ok
-}
-
 // The rules of an address record: it is registered.
-fn address_formed(address: &[u8], clock: u64, leave: u64) -> bool
-    requires { length address.now ≡ address_size }
-    ensures { result ≡ address_formed clock leave address.now }
+#[tactic(auto, using(crate::proofs::Edges::by_octets))]
+fn address_formed(address: &[u8; ADDRESS], times: Times) -> bool
+    ensures { result ≡ address_formed times.clock times.leave address.now }
 {
     let since = octets::get(address, address::SINCE, 4);
-    (address[address::REGISTERED] == 1)
-        & leaving_formed(address[address::LEAVES], since, clock, leave)
+    (address[address::REGISTERED] == 1) & times.leaving_formed(address[address::LEAVES], since)
 }
 
-// The first count address records keep their rules.
-fn addresses_formed(records: &[u8], count: usize, clock: u64, leave: u64) -> bool
-    requires { count * address_size ≤ length records.now }
-    ensures { result ≡ every_part address_size (address_formed clock leave) count records.now }
-{
-    let mut ok = true;
-    let mut i: usize = 0;
-    while i < count {
-        let a = i * ADDRESS;
-        ok = ok & address_formed(&records[a..a + ADDRESS], clock, leave);
-        i += 1;
-    }
-    ok
-}
-
-// The addresses of the first count records rise.
-fn addresses_rise(records: &[u8], count: usize) -> bool
-    requires { count * address_size ≤ length records.now }
-    ensures { result ≡ rising (parts address_size mac_of count records.now) }
-{
-    let mut ok = true;
-    let mut i: usize = 0;
-    while i + 1 < count {
-        let a = i * ADDRESS + address::MAC;
-        ok = ok & (octets::get(records, a, 6) < octets::get(records, a + ADDRESS, 6));
-        i += 1;
-    }
-    ok
-}
-
-// The rules of the addresses that a port holds; what follows them is zero.
-fn held_formed(own: &[u8], clock: u64, leave: u64) -> bool
-    requires { length own.now ≡ own_size }
-    ensures { result ≡ all_true (drop 3 (own_rules clock leave own.now)) }
+// The rules of the addresses that a port holds, which rise; what follows them is zero.
+fn held_formed(own: &[u8; OWN], times: Times) -> bool
+    ensures { result ≡ all_true (drop 3 (own_rules times.clock times.leave own.now)) }
 {
     let count = own[ADDRESSES_HELD] as usize;
     if MOST_ADDRESSES < count {
         return false;
     }
-    let records = &own[ADDRESSES..OWN];
-    addresses_formed(records, count, clock, leave)
-        & addresses_rise(records, count)
-        & zero_from(records, count * ADDRESS)
+    let (held, behind) = split_parts::<ADDRESS>(&own[ADDRESSES..OWN], count);
+    every(held, |address| address_formed(address, times))
+        & held.is_sorted_by(|a, b| octets::get(a, address::MAC, 6)
+            < octets::get(b, address::MAC, 6))
+        & is_zero(behind)
 }
 
 // The rules of what a port holds by itself: its Domain values, its flags and its addresses.
-fn own_formed(own: &[u8], clock: u64, leave: u64) -> bool
-    requires { length own.now ≡ own_size }
-    ensures { result ≡ own_formed clock leave own.now }
+fn own_formed(own: &[u8; OWN], times: Times) -> bool
+    ensures { result ≡ own_formed times.clock times.leave own.now }
 {
-    slots_formed(&own[0..BOUNDARY], clock, leave)
+    let (slots, _) = split_parts::<SLOT>(&own[0..BOUNDARY], SLOTS);
+    every(slots, |slot| slot_formed(slot, times))
         & (own[BOUNDARY] <= 1)
         & (own[BOUNDARY_B] <= 1)
-        & held_formed(own, clock, leave)
-}
-
-// What each port holds keeps its rules.
-fn owns_formed(owns: &[u8], ports: usize, clock: u64, leave: u64) -> bool
-    requires { ports * own_size ≤ length owns.now }
-    ensures { result ≡ every_part own_size (own_formed clock leave) ports owns.now }
-{
-    let mut ok = true;
-    let mut p: usize = 0;
-    while p < ports {
-        let a = p * OWN;
-        ok = ok & own_formed(&owns[a..a + OWN], clock, leave);
-        p += 1;
-    }
-    ok
+        & held_formed(own, times)
 }
 
 // The rules of what the ports of a table hold; what belongs to no port is zero.
-fn edges_formed(table: &[u8]) -> bool
-    requires { TableGiven table.now }
+fn edges_formed(table: &[u8; LENGTH], head: Head) -> bool
+    requires { TableGiven table.now head }
     ensures { result ≡ all_true (take 2 (drop 3 (table_rules table.now))) }
 {
-    let head = octets::get(table, HEAD, 3);
-    let ports = (head / PORTS_UNIT) as usize;
-    let clock = octets::get(table, CLOCK, 4);
-    let owns = &table[OWNS..SENDERS];
-    owns_formed(owns, ports, clock, head % PRIORITY_B_UNIT) & zero_from(owns, ports * OWN)
+    let (owns, behind) = split_parts::<OWN>(&table[OWNS..SENDERS], head.ports);
+    every(owns, |own| own_formed(own, head.times)) & is_zero(behind)
 }
 
 // The Applicant of a Domain value: VP, AA or QA where the port declares the value, else none.
+// The state stays an octet: a table under test may hold any, and Applicant::from reads those above 6 as LA.
+#[tactic(auto, unfolding(model::specs::Sending::domain_standing))]
 fn applicant_formed(state: u8, own: bool) -> bool
     ensures { result ≡ domain_standing own state }
 {
     if own {
-        return (state == 1) | ((state == 4) | (state == 5));
+        (state == 1) | ((state == 4) | (state == 5))
+    } else {
+        state == 0
     }
-    state == 0
 }
 
 // The Applicants of a port's Domain values, where it declares those of slots a and b.
-fn applicants_formed(applicants: &[u8], a: u64, b: u64) -> bool
-    requires { length applicants.now ≡ slots }
+fn applicants_formed(applicants: &[u8], a: usize, b: usize) -> bool
     ensures { result ≡ slots_standing (is_either a b) 0 applicants.now }
 {
     let mut ok = true;
-    let mut i: usize = 0;
-    while i < SLOTS {
-        let slot = i as u64;
-        ok = ok & applicant_formed(applicants[i], (slot == a) | (slot == b));
-        i += 1;
+    for (slot, state) in applicants.iter().enumerate() {
+        ok &= applicant_formed(*state, (slot == a) | (slot == b));
     }
     ok
 }
 
 // The rules of what a port sends by itself, where it declares the Domain values of slots a and b: their Applicants, and its LeaveAll
 // machine, of which the timer has not run out.
-fn sender_formed(sender: &[u8], clock: u64, a: u64, b: u64) -> bool
-    requires { length sender.now ≡ sender_size }
+#[tactic(auto, using(crate::proofs::Senders::by_octets))]
+fn sender_formed(sender: &[u8; SENDER], clock: u64, a: usize, b: usize) -> bool
     ensures { result ≡ sender_formed (is_either a b) clock sender.now }
 {
     let start = octets::get(sender, sender::TIMER, 4);
@@ -708,73 +599,66 @@ fn sender_formed(sender: &[u8], clock: u64, a: u64, b: u64) -> bool
 }
 
 // The slot of a class's Domain value where a port supports the class, else one past the last.
-fn slot_if(supports: bool, slot: u64) -> u64
+#[tactic(auto, unfolding(crate::specs::Asks::slot_if))]
+fn slot_if(supports: bool, slot: usize) -> usize
     ensures { result ≡ slot_if supports slot }
 {
-    if supports {
-        return slot;
-    }
-    SLOTS as u64
+    if supports { slot } else { SLOTS }
 }
 
-// What each port sends by itself keeps its rules.
-fn senders_formed(table: &[u8], ports: usize) -> bool
-    requires { PortsGiven table.now ports }
-    ensures { result ≡ senders_of table.now 0 ports }
+// What a port sends by itself, which declares its Domain value of each class that its flags support.
+#[tactic(auto, unfolding(crate::specs::Asks::sender_beside))]
+fn sending_port_formed(port: &[u8; PORT], sender: &[u8; SENDER], head: Head) -> bool
+    ensures { result ≡ sender_beside head.slot_a head.slot_b head.times.clock port.now sender.now }
 {
-    let head = octets::get(table, HEAD, 3);
-    let clock = octets::get(table, CLOCK, 4);
-    let slot_b = head / PRIORITY_B_UNIT % 8;
-    let slot_a = 8 + head / PRIORITY_A_UNIT % 8;
-    let mut ok = true;
-    let mut p: usize = 0;
-    while p < ports {
-        let flags = table[PORTS + p * PORT];
-        let b = slot_if(flags / 64 % 2 == 1, slot_b);
-        let a = slot_if(flags / 128 == 1, slot_a);
-        let from = SENDERS + p * SENDER;
-        ok = ok & sender_formed(&table[from..from + SENDER], clock, b, a);
-        p += 1;
-    }
-    ok
+    let flags = port[port::FLAGS];
+    let b = slot_if(flags / 64 % 2 == 1, head.slot_b);
+    let a = slot_if(flags / 128 == 1, head.slot_a);
+    sender_formed(sender, head.times.clock, b, a)
 }
 
 // The rules of what the ports of a table send; what belongs to no port is zero.
-fn sending_formed(table: &[u8]) -> bool
-    requires { TableGiven table.now }
+fn sending_formed(table: &[u8; LENGTH], head: Head) -> bool
+    requires { TableGiven table.now head }
     ensures { result ≡ all_true (take 2 (drop 5 (table_rules table.now))) }
 {
-    let ports = (octets::get(table, HEAD, 3) / PORTS_UNIT) as usize;
-    senders_formed(table, ports) & zero_from(&table[SENDERS..RECORDS], ports * SENDER)
+    let (ports, _) = split_parts::<PORT>(&table[PORTS..CLOCK], head.ports);
+    let (senders, behind) = split_parts::<SENDER>(&table[SENDERS..RECORDS], head.ports);
+    every_pair(
+        ports,
+        senders,
+        |port, sender| sending_port_formed(port, sender, head),
+    ) & is_zero(behind)
 }
 
-// The rules of the stream records of a table; what follows those in use is zero.
-fn streams_formed(table: &[u8]) -> bool
-    requires { TableGiven table.now }
+// The rules of the stream records of a table, of which the StreamIDs rise; what follows those in use is zero.
+fn streams_formed(table: &[u8; LENGTH], head: Head) -> bool
+    requires { TableGiven table.now head }
     ensures { result ≡ all_true (drop 7 (table_rules table.now)) }
 {
     let count = table[COUNT] as usize;
-    let head = octets::get(table, HEAD, 3);
-    let ports = (head / PORTS_UNIT) as usize;
-    let clock = octets::get(table, CLOCK, 4);
-    let records = &table[RECORDS..LENGTH];
-    records_formed(records, count, ports, clock, head % PRIORITY_B_UNIT)
-        & ids_rise(records, count)
-        & zero_from(records, count * RECORD)
+    let (records, behind) = split_parts::<RECORD>(&table[RECORDS..LENGTH], count);
+    every(records, |rec| record_formed(rec, head.ports, head.times))
+        & records.is_sorted_by(|a, b| octets::get(a, 0, 8) < octets::get(b, 0, 8))
+        & is_zero(behind)
 }
 
 // Number 12: a table has its length and keeps every form rule.
 pub fn is_formed(table: &[u8]) -> bool
     ensures { result ≡ formed table.now }
 {
-    if table.len() != LENGTH {
+    let Some(table) = table.as_array::<LENGTH>() else {
         return false;
-    }
+    };
     if 64 < table[COUNT] {
         return false;
     }
     if !header_formed(table) {
         return false;
     }
-    totals_formed(table) & edges_formed(table) & sending_formed(table) & streams_formed(table)
+    let head = Head::of(table);
+    totals_formed(table, head)
+        & edges_formed(table, head)
+        & sending_formed(table, head)
+        & streams_formed(table, head)
 }

@@ -136,3 +136,6 @@ module _ (s : List ℕ) (l : LaidSender s) (y : List ℕ) (e : y ≡ sender_octe
   unfolding heard_by_all hears_leave_all
   both-heard now z q =
       q ∙ ap (λ (x : Sender). sender_octets (hears_leave_all now (λ ds. ds) x)) (ap to_sender e ∙ sender-coded.back (heard_by_all (to_sender s)) heard-fits)
+
+-- for the search at the functions of lib.rt
+pub ruleset slots_hear = (domain-heard, none-heard, one-heard, all-heard, machine-restarted, heard-laid)

@@ -1,7 +1,7 @@
 -- What is heard of a stream, among the octets of what a port sends of it.
 use mathlib.Core.Path.{◌≡◌, refl, sym, ◌∙◌, ap}
 use mathlib.Core.List.{List, [], ◌++◌, append-nil}
-use Prim.Native.Nat.{ℕ, zero, suc}
+use Prim.Native.Nat.{ℕ}
 use lib.ListN.{length}
 use Rattle.model.specs.Layout.{advertising_size, failed_size, failing_size, in_sends, offer_size, ready_size}
 use Rattle.model.specs.Machines.{Heard, heard}
@@ -12,7 +12,6 @@ use Rattle.model.specs.Laid.{FitSends, LaidSends}
 use Rattle.model.proofs.ApplicantOctets.{applicant-coded, both_values}
 use Rattle.model.proofs.SendsOctets.{offer-values, failure-values}
 use Rattle.model.proofs.Fits.{fit-sends, laid-sends-is, laid-sends-fits}
-use Rattle.cells.specs.Acts.{kind_at}
 use Rattle.hearing.specs.Hears.{heard_at}
 use Rattle.hearing.proofs.One.{applicant-hears, heard-behind}
 
@@ -57,19 +56,19 @@ pub sends-heard : (h : Heard) (s : List ℕ) → LaidSends s → (k : Kind) (at 
 sends-heard h s l k at p y e =
     e ∙ ap (heard_at at h) (laid-sends-is s l) ∙ ap (λ (i : ℕ). heard_at i h (sends_octets (to_sends s))) p ∙ stream-hears h (to_sends s) (laid-sends-fits s l) k
 
--- the place that the code takes for a type
-module _ (kind : ℕ) where
-  pub place-advertising : kind ≡ 1 → in_sends.advertising ≡ applicant_place (kind_at kind)
-  unfolding applicant_place kind_at
-  place-advertising e = rw e
+-- at the places that the code takes
+module _ (h : Heard) (s : List ℕ) (l : LaidSends s) where
+  pub advertise-hears : heard_at in_sends.advertising h s ≡ sends_octets (hears advertises h (to_sends s))
+  unfolding applicant_place
+  advertise-hears = sends-heard h s l advertises in_sends.advertising refl _ refl
 
-  pub place-failing : kind ≡ 2 → in_sends.failing ≡ applicant_place (kind_at kind)
-  unfolding applicant_place kind_at
-  place-failing e = rw e
+  pub failed-hears : heard_at in_sends.failing h s ≡ sends_octets (hears faileds h (to_sends s))
+  unfolding applicant_place
+  failed-hears = sends-heard h s l faileds in_sends.failing refl _ refl
 
-pub place-listening : (kind : ℕ) → (kind ≡ 1 → ⊥) → (kind ≡ 2 → ⊥) → in_sends.listening ≡ applicant_place (kind_at kind)
-unfolding applicant_place kind_at
-place-listening zero p q = refl
-place-listening (suc zero) p q = absurd (p refl)
-place-listening (suc (suc zero)) p q = absurd (q refl)
-place-listening (suc (suc (suc k))) p q = refl
+  pub listener-hears : heard_at in_sends.listening h s ≡ sends_octets (hears listeners h (to_sends s))
+  unfolding applicant_place
+  listener-hears = sends-heard h s l listeners in_sends.listening refl _ refl
+
+-- for the search at `hear`
+pub ruleset sends_hear = (advertise-hears, failed-hears, listener-hears)

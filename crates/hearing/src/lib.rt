@@ -4,14 +4,17 @@
 
 ghost use Rattle.std.specs.Prelude.{◌≡◌, false, map, ℕ, ◌≤◌, ◌<◌, length};
 ghost use Rattle.model.specs.Layout.{sends_size, sender_size, slots};
+ghost use Rattle.model.specs.Attributes.{kind_of};
 ghost use Rattle.model.specs.Applicant.{step};
 ghost use Rattle.model.specs.Machines.{heard_event, heard_leave, heard};
 ghost use Rattle.model.specs.Registrations.{of_domain, hear_domain, hears, hears_leave_all, moves_sender};
 ghost use Rattle.model.specs.Sending.{sends_octets, to_sends, sender_octets, to_sender};
 ghost use Rattle.model.specs.Laid.{LaidSends, LaidSender};
-ghost use Rattle.cells.specs.Acts.{kind_at};
+ghost use Rattle.applicants.specs.Octets.{octet};
 ghost use Rattle.hearing.specs.Hears.{meant, heard_at, heard_by_all};
 
+use applicants::Applicant;
+use model::attribute::{StreamAttribute, TalkerAttribute};
 use table::sender::{LEAVE_ALL, TIMER};
 use table::sends::{ADVERTISING, FAILING, LISTENING};
 
@@ -23,42 +26,42 @@ pub enum Heard {
     Leave,
 }
 
-// An Applicant's octet after it.
-fn after(state: u8, heard: Heard) -> u8
-    ensures { (result ≡ step false (heard_event (meant heard)) state) × (result ≤ 6) }
+// An Applicant after it.
+#[tactic(auto, unfolding(crate::specs::Hears::meant, model::specs::Machines::heard_event))]
+fn after(state: Applicant, heard: Heard) -> Applicant
+    ensures { octet result ≡ step false (heard_event (meant heard)) (octet state) }
 {
     match heard {
-        Heard::In => applicants::heard_in(state),
-        Heard::Empty => applicants::heard_empty(state),
-        Heard::Leave => applicants::heard_leave(state),
+        Heard::In => state.heard_in(),
+        Heard::Empty => state.heard_empty(),
+        Heard::Leave => state.heard_leave(),
     }
 }
 
 // The same of the Applicant at a place.
+#[tactic(auto, using(applicants::proofs::Octets::step_read), unfolding(crate::specs::Hears::heard_at))]
 fn hear_at(sent: &mut [u8], at: usize, heard: Heard)
     requires { at < length sent.old }
     ensures { sent.new ≡ heard_at at (meant heard) sent.old }
 {
-    sent[at] = after(sent[at], heard);
+    sent[at] = after(Applicant::from(sent[at]), heard) as u8;
 }
 
 // What is heard of a stream, by the Applicant of an AttributeType on a port.
-pub fn hear(sends: &mut [u8], kind: u8, heard: Heard)
+#[tactic(auto, using(crate::proofs::OfStream::sends_hear))]
+pub fn hear(sends: &mut [u8], attribute: StreamAttribute, heard: Heard)
     requires { LaidSends sends.old × (length sends.old ≡ sends_size) }
-    ensures { sends.new ≡ sends_octets (hears (kind_at kind) (meant heard) (to_sends sends.old)) }
+    ensures { sends.new ≡ sends_octets (hears (kind_of attribute) (meant heard) (to_sends sends.old)) }
 {
-    if kind == 1 {
-        hear_at(sends, ADVERTISING, heard);
-        return;
+    match attribute {
+        StreamAttribute::Talker(TalkerAttribute::Advertise) => hear_at(sends, ADVERTISING, heard),
+        StreamAttribute::Talker(TalkerAttribute::Failed) => hear_at(sends, FAILING, heard),
+        StreamAttribute::Listener => hear_at(sends, LISTENING, heard),
     }
-    if kind == 2 {
-        hear_at(sends, FAILING, heard);
-        return;
-    }
-    hear_at(sends, LISTENING, heard);
 }
 
 // What is heard of a Domain value, by the Applicant of its slot.
+#[tactic(auto, using(crate::proofs::OfPort::slots_hear))]
 pub fn hear_domain(sender: &mut [u8], slot: usize, heard: Heard)
     requires { LaidSender sender.old × (length sender.old ≡ sender_size) × (slot < slots) }
     ensures { (clock : ℕ) → sender.new
@@ -68,6 +71,7 @@ pub fn hear_domain(sender: &mut [u8], slot: usize, heard: Heard)
 }
 
 // A LeaveAll of any type: the LeaveAll machine is passive, its timer started at the clock.
+#[tactic(auto, using(crate::proofs::OfPort::slots_hear))]
 pub fn restart(sender: &mut [u8], clock: u32)
     requires { LaidSender sender.old × (length sender.old ≡ sender_size) }
     ensures { sender.new ≡ sender_octets (hears_leave_all clock (λ ds. ds) (to_sender sender.old)) }
@@ -77,18 +81,18 @@ pub fn restart(sender: &mut [u8], clock: u32)
 }
 
 // Every Domain value's Applicant hears LeaveAll.
+#[tactic(auto, using(crate::proofs::OfPort::slots_hear), unfolding(crate::specs::Hears::meant))]
 fn hear_every(sender: &mut [u8])
     requires { LaidSender sender.old × (length sender.old ≡ sender_size) }
     ensures { sender.new ≡ sender_octets (heard_by_all (to_sender sender.old)) }
 {
-    let mut slot: usize = 0;
-    while slot < table::SLOTS {
+    for slot in 0..table::SLOTS {
         hear_at(sender, slot, Heard::Leave);
-        slot += 1;
     }
 }
 
 // A LeaveAll of the Domain values.
+#[tactic(auto, using(crate::proofs::OfPort::slots_hear))]
 pub fn hear_domains(sender: &mut [u8], clock: u32)
     requires { LaidSender sender.old × (length sender.old ≡ sender_size) }
     ensures { sender.new ≡ sender_octets (hears_leave_all clock (map (heard heard_leave)) (to_sender sender.old)) }

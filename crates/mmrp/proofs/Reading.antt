@@ -19,19 +19,20 @@ use Rattle.model.specs.Frames as msrp
 use Rattle.model.specs.AddressFrames as frames
 use Rattle.model.proofs.FoundAddresses.{no-refusal, no-list-fault}
 use Rattle.msrpdu.specs.Reader.{first_part, event_meant, event_in}
-use Rattle.msrpdu.specs.declared.Event.{Event}
-use Rattle.msrpdu.specs.declared.Event.TheVariants.{New, JoinIn, In, JoinMt, Mt, Lv, Missing}
-use Rattle.msrpdu.specs.declared.ValueRead.TheVariants.{Value, Past}
+use Rattle.std.specs.Prelude.{Option, Some, None, Result, Ok, Err}
+use Rattle.model.specs.Events.{asked_by}
+use Rattle.model.specs.declared.refusal.Refusal.{Refusal}
+use Rattle.model.specs.declared.event.Asked.{Asked}
+use Rattle.model.specs.declared.event.Asked.TheVariants.{Join, Leave}
+use Rattle.model.specs.declared.event.Event.{Event}
+use Rattle.msrpdu.proofs.Laws.{event-there}
 use Rattle.msrpdu.specs.declared.VectorHead.{VectorHead}
 use Rattle.msrpdu.specs.declared.VectorRead.TheVariants as vector
 use Rattle.mmrpdu.specs.Reader.{list_named, head_vector, typed_read, message_read}
 use Rattle.mmrpdu.specs.declared.MessageHead.{MessageHead}
-use Rattle.mmrpdu.specs.declared.MessageRead.TheVariants as message
 use Rattle.mmrpdu.proofs.Walking.{within, over-within, ahead-list}
 use Rattle.mmrpdu.proofs.Applying.{Sound, sound, address_read, other-acts, macs-named, NextVector, found-next, found-over, found-end, found-accepted, list-ends, NextList, found-list, found-done, found-allowed, accepted-messages, accepted-length}
 use Rattle.addresses.specs.Room.{present_only}
-use Rattle.mmrp.specs.declared.Asked.{Asked}
-use Rattle.mmrp.specs.declared.Asked.TheVariants.{Nothing, Join, Leave}
 use Rattle.mmrp.specs.Run.{effects, held, having, Walked}
 use Rattle.mmrp.specs.Walked.{asked_of, vector_of, acts_of, list_read, list_acts_of, list_end_of, taken, Receives}
 use Rattle.mmrp.specs.Asks.{HasAddress}
@@ -41,17 +42,8 @@ use Rattle.mmrp.proofs.Walks.{held_fits, having-same, walked_none, went-held, we
 -- Values.
 
 -- what an event asks for
-unfoldable pub asked_by : Event → Asked
-asked_by New = Join
-asked_by JoinIn = Join
-asked_by In = Nothing
-asked_by JoinMt = Join
-asked_by Mt = Nothing
-asked_by Lv = Leave
-asked_by Missing = Nothing
-
 asked-meant : (e : msrp.Event) → asked_by (event_meant e) ≡ asked_of (asking e)
-unfolding asked_by event_meant asked_of asking
+unfolding event_meant asked_of asking
 asked-meant msrp.new = refl
 asked-meant msrp.join_in = refl
 asked-meant msrp.is_in = refl
@@ -59,32 +51,38 @@ asked-meant msrp.join_mt = refl
 asked-meant msrp.mt = refl
 asked-meant msrp.lv = refl
 
--- r is what the event reader gave
-pub asked-read : (three : List ℕ) (n : ℕ) (r : Event) → n / 3 < length three → r ≡ event_in three n → asked_by r ≡ asked_of (frames.address_asking three n)
-unfolding event_in frames.address_asking
-asked-read three n r h e = rw (e, lt-ltb (n / 3) (length three) h) (asked-meant (event (three_packed (get_or three (n / 3) 0) (n % 3))))
+-- of a value that has one
+pub asked-read : (three : List ℕ) (n : ℕ) (e : Event) → n / 3 < length three → event_in three n ≡ Some e → asked_by e ≡ asked_of (frames.address_asking three n)
+unfolding frames.address_asking
+asked-read three n e h i =
+    let j : ◌≡◌ {A = Option Event} (Some (event_meant (event (three_packed (get_or three (n / 3) 0) (n % 3))))) (Some e) = sym (event-there three n h) ∙ i in
+    let k : event_meant (event (three_packed (get_or three (n / 3) 0) (n % 3))) ≡ e = cc in
+    ap asked_by (sym k) ∙ asked-meant (event (three_packed (get_or three (n / 3) 0) (n % 3)))
+
+pub event-missed : (three : List ℕ) (n : ℕ) → n / 3 < length three → event_in three n ≡ None → ⊥
+event-missed three n h e = let i = event-there three n h in let z : ◌≡◌ {A = ℕ} 0 1 = cc in omega arith
 
 -- what the address reader gave
-pub not-past : (x : ℕ) → Value x ≡ Past → ⊥
+pub not-past : (x : ℕ) → Some x ≡ None → ⊥
 not-past x e = let z : ◌≡◌ {A = ℕ} 0 1 = cc in omega arith
 
-pub value-is : (x y : ℕ) → Value x ≡ Value y → x ≡ y
+pub value-is : (x y : ℕ) → Some x ≡ Some y → x ≡ y
 value-is x y e = cc
 
 -- the acts of a value, by what is asked for
-pub acts-nothing : (mac : ℕ) (a : Asking) → asked_of a ≡ Nothing → frames.address_act mac a ≡ []
+pub acts-nothing : (mac : ℕ) (a : Asking) → asked_of a ≡ None → frames.address_act mac a ≡ []
 unfolding asked_of frames.address_act
 acts-nothing mac nothing_asked e = refl
 acts-nothing mac join e = let z : ◌≡◌ {A = ℕ} 0 1 = cc in absurd (omega arith)
 acts-nothing mac withdraw e = let z : ◌≡◌ {A = ℕ} 0 1 = cc in absurd (omega arith)
 
-pub acts-join : (mac : ℕ) (a : Asking) → asked_of a ≡ Join → frames.address_act mac a ≡ join_address mac ∷ []
+pub acts-join : (mac : ℕ) (a : Asking) → asked_of a ≡ Some Join → frames.address_act mac a ≡ join_address mac ∷ []
 unfolding asked_of frames.address_act
 acts-join mac nothing_asked e = let z : ◌≡◌ {A = ℕ} 0 1 = cc in absurd (omega arith)
 acts-join mac join e = refl
 acts-join mac withdraw e = let z : ◌≡◌ {A = ℕ} 0 1 = cc in absurd (omega arith)
 
-pub acts-leave : (mac : ℕ) (a : Asking) → asked_of a ≡ Leave → frames.address_act mac a ≡ leave_address mac ∷ []
+pub acts-leave : (mac : ℕ) (a : Asking) → asked_of a ≡ Some Leave → frames.address_act mac a ≡ leave_address mac ∷ []
 unfolding asked_of frames.address_act
 acts-leave mac nothing_asked e = let z : ◌≡◌ {A = ℕ} 0 1 = cc in absurd (omega arith)
 acts-leave mac join e = let z : ◌≡◌ {A = ℕ} 0 1 = cc in absurd (omega arith)
@@ -102,7 +100,7 @@ module _ (v : frames.AddressVector) (n count : ℕ) where
 
 -- A vector of MAC addresses that was read.
 
-module _ (version : ℕ) (s : List ℕ) (at : ℕ) (w : VectorHead) (e : typed_read version frames.mac_list s at ≡ vector.Vector w) where
+module _ (version : ℕ) (s : List ℕ) (at : ℕ) (w : VectorHead) (e : typed_read version frames.mac_list s at ≡ Ok (vector.Vector w)) where
   sounds : Sound frames.mac_list (head_vector s w)
   sounds = sound version frames.mac_list s at w e
 
@@ -110,7 +108,7 @@ module _ (version : ℕ) (s : List ℕ) (at : ℕ) (w : VectorHead) (e : typed_r
   unfolding head_vector part three_length
   enough-events = let m = sounds.three in omega arith
 
-  pub has-addresses : (n : ℕ) → n < w.values → HasAddress (first_part s (vector.Vector w)) n
+  pub has-addresses : (n : ℕ) → n < w.values → HasAddress (first_part s w) n
   unfolding head_vector
   has-addresses n h = let a = address_read (head_vector s w) n h sounds in record { read = a.0; small = a.1 }
 
@@ -124,7 +122,7 @@ same-values v n (suc k) =
 pub vector-acts : (s : List ℕ) (w : VectorHead) →
     frames.address_vector_acts frames.mac_list (head_vector s w)
     ≡ frames.all_addresses w.leaves
-    ++ frames.address_values (vector_of (first_part s (vector.Vector w)) (take (w.four - w.three) (drop w.three s))) 0 w.values
+    ++ frames.address_values (vector_of (first_part s w) (take (w.four - w.three) (drop w.three s))) 0 w.values
 unfolding frames.address_vector_acts head_vector part
 vector-acts s w = ap (λ (es : List AddressAct). frames.all_addresses w.leaves ++ es) (same-values (head_vector s w) 0 w.values)
 
@@ -165,15 +163,15 @@ module _ (pdu : List ℕ) (version : ℕ) (m : MessageHead) (applying : Bool) (n
   }
 
   module _ (at : ℕ) (u : List ℕ) (g : ListGoing at u) where
-    pub list-refused : (n : ℕ) → typed_read version type pdu at ≡ vector.Refused n → ⊥
+    pub list-refused : (n : Refusal) → typed_read version type pdu at ≡ Err n → ⊥
     list-refused n r = found-accepted g.turns version type pdu at g.left _ g.finds n r
 
-    pub list-end : typed_read version type pdu at ≡ vector.EndMark → (at + 2 ≡ list_end_of whole) × Walked applying now (list_acts_of whole) s true u
+    pub list-end : typed_read version type pdu at ≡ Ok vector.EndMark → (at + 2 ≡ list_end_of whole) × Walked applying now (list_acts_of whole) s true u
     list-end r =
         let a = found-end g.turns version type pdu at g.left _ g.finds r in
         (sym a.1, going_end applying now (list_acts_of whole) s g.left u g.going a.0)
 
-    pub list_over : (next : ℕ) → typed_read version type pdu at ≡ vector.PassedOver next → ListGoing next u
+    pub list_over : (next : ℕ) → typed_read version type pdu at ≡ Ok (vector.PassedOver next) → ListGoing next u
     list_over next r = record {
       within = (over-within version type pdu at next r).1;
       turns = g.turns - 1;
@@ -182,7 +180,7 @@ module _ (pdu : List ℕ) (version : ℕ) (m : MessageHead) (applying : Bool) (n
       going = g.going;
     }
 
-    module _ (w : VectorHead) (r : typed_read version type pdu at ≡ vector.Vector w) where
+    module _ (w : VectorHead) (r : typed_read version type pdu at ≡ Ok (vector.Vector w)) where
       next : NextVector g.turns version type pdu w g.left (list_end_of whole)
       next = found-next g.turns version type pdu at g.left _ g.finds w r
 
@@ -242,13 +240,13 @@ module _ (pdu : List ℕ) (applying : Bool) (now : ℕ) (s : List ℕ) where
   }
 
   module _ (at : ℕ) (u : List ℕ) (g : FrameGoing at u) where
-    pub frame_refused : (n : ℕ) → message_read version pdu at ≡ message.Refused n → ⊥
+    pub frame_refused : (n : Refusal) → message_read version pdu at ≡ Err n → ⊥
     frame_refused n r = found-allowed g.turns version pdu at g.left g.finds n r
 
-    pub frame-end : message_read version pdu at ≡ message.End → Walked applying now acts s true u
+    pub frame-end : message_read version pdu at ≡ Ok None → Walked applying now acts s true u
     frame-end r = going_end applying now acts s g.left u g.going (found-done g.turns version pdu at g.left g.finds r)
 
-    module _ (m : MessageHead) (r : message_read version pdu at ≡ message.List m) where
+    module _ (m : MessageHead) (r : message_read version pdu at ≡ Ok (Some m)) where
       pub next-list : NextList g.turns version pdu m g.left
       next-list = found-list g.turns version pdu at g.left g.finds m r
 

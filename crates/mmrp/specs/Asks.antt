@@ -1,11 +1,10 @@
 -- What each step of a walk asks for, of the octets s of what a port holds by itself.
-use Rattle.std.specs.Prelude.{ℕ, ◌*◌, ◌/◌, ◌^◌, ◌≤◌, ◌<◌, ◌≡◌, List, length}
+use Rattle.std.specs.Prelude.{ℕ, ◌*◌, ◌/◌, ◌^◌, ◌≤◌, ◌<◌, ◌≡◌, List, length, Some, Ok}
 use Rattle.model.specs.Registrations.{AddressAct, address_acts}
 use Rattle.model.specs.Laid.{LaidOwn}
 use Rattle.model.specs.AddressFrames.{mac_list, address_of, list_acts, address_walk}
 use Rattle.msrpdu.specs.declared.VectorHead.{VectorHead}
 use Rattle.msrpdu.specs.declared.VectorRead.TheVariants.{Vector}
-use Rattle.msrpdu.specs.declared.ValueRead.TheVariants.{Value}
 use Rattle.mmrpdu.specs.Reader.{typed_read, address_in}
 use Rattle.mmrpdu.specs.declared.MessageHead.{MessageHead}
 use Rattle.addresses.specs.Room.{present_only}
@@ -14,7 +13,7 @@ use Rattle.mmrp.specs.Walked.{list_read}
 
 -- value n of FirstValue is an address of 48 bits
 pub record HasAddress (first : List ℕ) (n : ℕ) : Type 0 where
-  pub read : address_in first n ≡ Value (address_of first n)
+  pub read : address_in first n ≡ Some (address_of first n)
   pub small : address_of first n < 2 ^ 48
 
 -- one value, with its event
@@ -34,7 +33,7 @@ pub record VectorGiven (s pdu : List ℕ) (head : VectorHead) : Type 0 where
   pub laid : LaidOwn s
   pub version : ℕ
   pub at : ℕ
-  pub read : typed_read version mac_list pdu at ≡ Vector head
+  pub read : typed_read version mac_list pdu at ≡ Ok (Vector head)
 
 -- a well-formed list, which starts within its PDU
 pub record ListGiven (s pdu : List ℕ) (version : ℕ) (head : MessageHead) : Type 0 where

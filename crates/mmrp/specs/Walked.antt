@@ -1,5 +1,5 @@
 -- What the walk reads of a frame, and what it leaves.
-use Rattle.std.specs.Prelude.{ℕ, suc, ◌≡◌, List, [], Bool, false, cond, length, leb}
+use Rattle.std.specs.Prelude.{ℕ, suc, ◌≡◌, List, [], Bool, false, cond, length, leb, Option, Some, None}
 use Rattle.model.specs.Layout.{most_addresses}
 use Rattle.model.specs.Registrations.{AddressAct, AddressReading, refused_frame, address_acts, does_addresses, change_addresses}
 use Rattle.model.specs.Table.{own_octets, to_own}
@@ -7,16 +7,14 @@ use Rattle.model.specs.Frames.{Asking, nothing_asked, join, withdraw}
 use Rattle.model.specs.AddressFrames as frames
 use Rattle.mmrpdu.specs.Reader.{list_named}
 use Rattle.mmrpdu.specs.declared.MessageHead.{MessageHead}
-use Rattle.mmrp.specs.declared.Asked.{Asked}
-use Rattle.mmrp.specs.declared.Asked.TheVariants.{Nothing, Join, Leave}
-use Rattle.mmrp.specs.declared.Reached.{Reached}
-use Rattle.mmrp.specs.declared.Reached.TheVariants.{Place, Full}
+use Rattle.model.specs.declared.event.Asked.{Asked}
+use Rattle.model.specs.declared.event.Asked.TheVariants.{Join, Leave}
 use Rattle.mmrp.specs.Run.{held, Went, Stopped}
 
-unfoldable pub asked_of : Asking → Asked
-asked_of nothing_asked = Nothing
-asked_of join = Join
-asked_of withdraw = Leave
+unfoldable pub asked_of : Asking → Option Asked
+asked_of nothing_asked = None
+asked_of join = Some Join
+asked_of withdraw = Some Leave
 
 -- a vector by the parts that its values are read from
 unfoldable pub vector_of : List ℕ → List ℕ → frames.AddressVector
@@ -40,9 +38,9 @@ list_end_of (frames.list_fault n) = 0
 list_end_of (frames.list_acts es end) = end
 
 -- a walk over a list comes to its end, or stops
-abbrev pub Reaches : Bool → ℕ → frames.ListWalk → List ℕ → Reached → List ℕ → Type 0
-Reaches m now w s (Place e) u = (e ≡ list_end_of w) × Went m now (list_acts_of w) s u
-Reaches m now w s Full u = Stopped m now (list_acts_of w) s u
+abbrev pub Reaches : Bool → ℕ → frames.ListWalk → List ℕ → Option ℕ → List ℕ → Type 0
+Reaches m now w s (Some e) u = (e ≡ list_end_of w) × Went m now (list_acts_of w) s u
+Reaches m now w s None u = Stopped m now (list_acts_of w) s u
 
 -- A frame: 14 "where a port would need a 65th address", or its acts are done.
 

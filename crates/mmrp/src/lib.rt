@@ -10,29 +10,16 @@ ghost use Rattle.mmrp.specs.Run.{Walked};
 ghost use Rattle.mmrp.specs.Walked.{asked_of, vector_of, list_read, Reaches, acts_of, Receives};
 ghost use Rattle.mmrp.specs.Asks.{ValueGiven, ValuesGiven, VectorGiven, ListGiven, FrameGiven, ReceiveGiven};
 
-use mmrpdu::{MessageHead, MessageRead};
-use msrpdu::{Event, ValueRead, VectorHead, VectorRead};
-
-// What the event of a value asks for.
-#[derive(Clone, Copy)]
-enum Asked {
-    Nothing,
-    Join,
-    Leave,
-}
+use mmrpdu::MessageHead;
+use model::event::Asked;
+use msrpdu::{VectorHead, VectorRead};
 
 // A walk over a frame: whether it applies the frame or makes room for it, and the clock.
+// A flag and not two walks: what makes room and what applies must meet the same values in the same order.
 #[derive(Clone, Copy)]
 struct Walk {
     applying: bool,
     clock: u32,
-}
-
-// Where a walk over a list came to: the place behind it, or that there is no room for all of it.
-#[derive(Clone, Copy)]
-enum Reached {
-    Place(usize),
-    Full,
 }
 
 // A join of an address: its record is there or is made; where the frame is applied, it is registered.
@@ -50,21 +37,12 @@ fn join(own: &mut [u8], walk: Walk, mac: u64) -> bool
     true
 }
 
-// What the event of value n asks for; "Ignore, In and Mt do nothing".
-fn ask(events: &[u8], n: usize) -> Asked
+// What the event of value n asks for.
+fn ask(events: &[u8], n: usize) -> Option<Asked>
     requires { n / 3 < length events.now }
     ensures { result ≡ asked_of (address_asking events.now n) }
 {
-    let e = msrpdu::event_of(events, n);
-    match e {
-        Event::New => Asked::Join,
-        Event::JoinIn => Asked::Join,
-        Event::In => Asked::Nothing,
-        Event::JoinMt => Asked::Join,
-        Event::Mt => Asked::Nothing,
-        Event::Lv => Asked::Leave,
-        Event::Missing => Asked::Nothing,
-    }
+    msrpdu::event_of(events, n)?.asked()
 }
 
 // Value n of a vector of MAC addresses.
@@ -73,14 +51,13 @@ fn value(own: &mut [u8], walk: Walk, first: &[u8], events: &[u8], n: usize) -> b
     ensures { Walked walk.applying walk.clock (address_act (address_of first.now n) (address_asking events.now n))
         own.old result own.new }
 {
-    let ValueRead::Value(mac) = mmrpdu::address(first, n) else {
+    let Some(mac) = mmrpdu::address(first, n) else {
         return true;
     };
-    let a = ask(events, n);
-    match a {
-        Asked::Nothing => true,
-        Asked::Join => join(own, walk, mac),
-        Asked::Leave => {
+    match ask(events, n) {
+        None => true,
+        Some(Asked::Join) => join(own, walk, mac),
+        Some(Asked::Leave) => {
             if walk.applying {
                 addresses::leave(own, mac, walk.clock);
             }
@@ -95,13 +72,11 @@ fn values(own: &mut [u8], walk: Walk, first: &[u8], events: &[u8], count: usize)
     ensures { Walked walk.applying walk.clock (address_values (vector_of first.now events.now) 0 count)
         own.old result own.new }
 {
-    let mut n: usize = 0;
-    while n < count {
+    for n in 0..count {
         let went = value(own, walk, first, events, n);
         if !went {
             return false;
         }
-        n += 1;
     }
     true
 }
@@ -124,7 +99,7 @@ fn vector(own: &mut [u8], walk: Walk, pdu: &[u8], head: VectorHead) -> bool
     requires { VectorGiven own.old pdu.now head }
     ensures { Walked walk.applying walk.clock (address_vector_acts mac_list (head_vector pdu.now head)) own.old result own.new }
 {
-    let first = msrpdu::first_value(pdu, VectorRead::Vector(head));
+    let first = msrpdu::first_value_at(pdu, head);
     let count = head.values;
     let three = head.three;
     let four = head.four;
@@ -132,35 +107,31 @@ fn vector(own: &mut [u8], walk: Walk, pdu: &[u8], head: VectorHead) -> bool
     values(own, walk, first, &pdu[three..four], count)
 }
 
-// The list of a Message, vector by vector to its EndMark. Only MAC addresses are applied: the others are read and dropped.
-fn list(own: &mut [u8], walk: Walk, pdu: &[u8], version: u8, head: MessageHead) -> Reached
+// The list of a Message, vector by vector: the place behind its EndMark, or none where there is no room for all of it. Only MAC
+// addresses are applied: the others are read and dropped.
+// Registrar's walk shares the match alone: its lists have a length, and it works on the table, on Registrar and Applicant.
+fn list(own: &mut [u8], walk: Walk, pdu: &[u8], version: u8, head: MessageHead) -> Option<usize>
     requires { ListGiven own.old pdu.now version head }
     ensures { Reaches walk.applying walk.clock (list_read pdu.now version head) own.old result own.new }
 {
     let mut at = head.list;
     loop {
-        let v = mmrpdu::typed_vector(pdu, at, version, head.kind, head.octets);
-        match v {
-            // none in a frame that is well-formed
-            VectorRead::Refused(_) => {
-                return Reached::Full;
-            }
-            VectorRead::EndMark => {
-                return Reached::Place(at + 2);
-            }
+        // none is refused in a frame that is well-formed
+        let Ok(read) = mmrpdu::typed_vector(pdu, at, version, head.kind, head.octets) else {
+            return None;
+        };
+        match read {
+            VectorRead::EndMark => return Some(at + 2),
             VectorRead::Vector(w) => {
-                let next = w.next;
                 if head.kind == 2 {
                     let went = vector(own, walk, pdu, w);
                     if !went {
-                        return Reached::Full;
+                        return None;
                     }
                 }
-                at = next;
+                at = w.next;
             }
-            VectorRead::PassedOver(next) => {
-                at = next;
-            }
+            VectorRead::PassedOver(next) => at = next,
         }
     }
 }
@@ -173,22 +144,17 @@ fn frame(own: &mut [u8], walk: Walk, pdu: &[u8]) -> bool
     let version = pdu[0];
     let mut at: usize = 1;
     loop {
-        let m = mmrpdu::message(pdu, version, at);
-        match m {
-            // none in a frame that is well-formed
-            MessageRead::Refused(_) => {
-                return true;
-            }
-            MessageRead::End => {
-                return true;
-            }
-            MessageRead::List(head) => {
-                let Reached::Place(end) = list(own, walk, pdu, version, head) else {
-                    return false;
-                };
-                at = end;
-            }
-        }
+        // none is refused in a frame that is well-formed
+        let Ok(read) = mmrpdu::message(pdu, version, at) else {
+            return true;
+        };
+        let Some(head) = read else {
+            return true;
+        };
+        let Some(end) = list(own, walk, pdu, version, head) else {
+            return false;
+        };
+        at = end;
     }
 }
 

@@ -2,6 +2,7 @@
 use mathlib.Core.Path.{◌≡◌, refl, sym, ap, ◌∙◌}
 use mathlib.Core.List.{List}
 use mathlib.Core.Bool.{Bool, true, false, cond}
+use Rattle.std.specs.Prelude.{Option, Some, None, Result, Ok, Err}
 use Prim.Native.Nat.{ℕ, zero, suc, ◌+◌, ◌-◌, ◌%◌, ◌≤◌, ◌<◌, ◌^◌}
 use native.Mathlib.Omega.{arith}
 use lib.ListN.{length, get_or}
@@ -20,13 +21,13 @@ use Rattle.msrpdu.specs.declared.VectorRead.{VectorRead}
 use Rattle.msrpdu.specs.declared.VectorRead.TheVariants as vector
 use Rattle.msrpdu.proofs.Laws.{mark-short, mark-other}
 use Rattle.msrpdu.proofs.Reading.{Headed, read_head, first-here}
-use Rattle.mmrpdu.specs.Reader.{list_named, header_number, message_meant, message_read, typed_read}
-use Rattle.mmrpdu.specs.declared.MessageRead.TheVariants as message
+use Rattle.model.specs.Numbers.{refusal_of}
+use Rattle.model.specs.declared.refusal.Refusal.{Refusal}
+use Rattle.model.specs.declared.refusal.Refusal.TheVariants as refusal
+use Rattle.mmrpdu.specs.Reader.{list_named, header_answer, message_meant, message_read, typed_read}
+use Rattle.mmrpdu.specs.declared.MessageHead.{MessageHead}
 
 -- Types.
-
-above : (kind : ℕ) → 2 < kind → kind ≡ suc (suc (suc (kind - 3)))
-above kind p = omega arith
 
 -- a type that is known is the same whatever AttributeLength is named with it, and so are the octets of any type's FirstValue
 pub named_again : (kind octets : ℕ) → first_octets (list_named kind (first_octets (list_named kind octets))) ≡ first_octets (list_named kind octets)
@@ -43,80 +44,63 @@ overruns-any (suc zero) a b first n = refl
 overruns-any (suc (suc zero)) a b first n = refl
 overruns-any (suc (suc (suc kind))) a b first n = refl
 
--- any other type has the octets that it is named with
-pub other-octets : (kind octets : ℕ) → (kind ≡ 1 → ⊥) → (kind ≡ 2 → ⊥) → first_octets (list_named kind octets) ≡ octets
-unfolding list_named first_octets
-other-octets zero octets p q = refl
-other-octets (suc zero) octets p q = absurd (p refl)
-other-octets (suc (suc zero)) octets p q = absurd (q refl)
-other-octets (suc (suc (suc kind))) octets p q = refl
-
 -- A Message's type and AttributeLength.
 
-module _ (version kind octets : ℕ) (p : 2 < kind) where
-  pub strange-refused : version ≡ 0 → header_number (address_header version kind octets) ≡ 4
-  unfolding header_number address_header
-  strange-refused e = rw (above kind p, eq-eqb _ _ e)
-
-  pub strange-list : (version ≡ 0 → ⊥) → header_number (address_header version kind octets) ≡ 0
-  unfolding header_number address_header
-  strange-list e = rw (above kind p, ne_eqb _ _ e)
-
 -- a known type, with its AttributeLength or another
-known : (t : AddressList) (b : Bool) → header_number (cond b (address_list_of t) (bad_header 5)) ≡ 0 → cond b (address_list_of t) (bad_header 5) ≡ address_list_of t
-unfolding header_number
+known : (t : AddressList) (b : Bool) → header_answer (cond b (address_list_of t) (bad_header 5)) ≡ Ok tt → cond b (address_list_of t) (bad_header 5) ≡ address_list_of t
+unfolding header_answer
 known t true h = refl
-known t false h = absurd (omega arith)
+known t false h = let z : ◌≡◌ {A = ℕ} 0 1 = cc in absurd (omega arith)
 
 -- where they are in order, the list is the one that they name
-pub header-listed : (version kind octets : ℕ) → header_number (address_header version kind octets) ≡ 0
+pub header-listed : (version kind octets : ℕ) → header_answer (address_header version kind octets) ≡ Ok tt
     → address_header version kind octets ≡ address_list_of (list_named kind octets)
-unfolding header_number address_header list_named
-header-listed version zero octets e = absurd (omega arith)
+unfolding header_answer address_header list_named
+header-listed version zero octets e = let z : ◌≡◌ {A = ℕ} 0 1 = cc in absurd (omega arith)
 header-listed version (suc zero) octets e = known service_list (eqb octets service_length) e
 header-listed version (suc (suc zero)) octets e = known mac_list (eqb octets mac_length) e
 header-listed version (suc (suc (suc kind))) octets e = newer (eqb version 0) e
   where
-    newer : (b : Bool) → header_number (cond b (bad_header 4) (address_list_of (unknown_list octets))) ≡ 0 → cond b (bad_header 4) (address_list_of (unknown_list octets)) ≡ address_list_of (unknown_list octets)
-    newer true h = absurd (omega arith)
+    newer : (b : Bool) → header_answer (cond b (bad_header 4) (address_list_of (unknown_list octets))) ≡ Ok tt → cond b (bad_header 4) (address_list_of (unknown_list octets)) ≡ address_list_of (unknown_list octets)
+    newer true h = let z : ◌≡◌ {A = ℕ} 0 1 = cc in absurd (omega arith)
     newer false h = refl
 
 -- The Message at a place, in the order of the checks.
 
-pub header-meant : (s : List ℕ) (at : ℕ) (r : InAddressPdu) → (header_number r ≡ 0 → ⊥) → message_meant s at r ≡ message.Refused (header_number r)
-unfolding message_meant header_number
-header-meant s at (bad_header n) p = refl
-header-meant s at no_message p = absurd (p refl)
-header-meant s at (address_list_of t) p = absurd (p refl)
+pub header-meant : (s : List ℕ) (at : ℕ) (x : InAddressPdu) (r : Refusal) → header_answer x ≡ Err r → message_meant s at x ≡ Err r
+unfolding message_meant header_answer
+header-meant s at (bad_header n) r e = let i : refusal_of n ≡ r = cc in ap Err i
+header-meant s at no_message r e = let z : ◌≡◌ {A = ℕ} 0 1 = cc in absurd (omega arith)
+header-meant s at (address_list_of t) r e = let z : ◌≡◌ {A = ℕ} 0 1 = cc in absurd (omega arith)
 
 module _ (version : ℕ) (s : List ℕ) (at : ℕ) where
-  pub message-done : at ≡ length s → message_read version s at ≡ message.End
+  pub message-done : at ≡ length s → message_read version s at ≡ Ok None
   unfolding message_read message_meant address_message_in
   message-done p = rw (eq-eqb _ _ p)
 
   module _ (o : at ≡ length s → ⊥) where
-    pub message-short : length s < at + 2 → message_read version s at ≡ message.Refused 3
-    unfolding message_read message_meant address_message_in
+    pub message-short : length s < at + 2 → message_read version s at ≡ Err refusal.PastEnd
+    unfolding message_read message_meant address_message_in refusal_of
     message-short p = rw (ne_eqb _ _ o, mark-short s at p, lt-ltb _ _ p)
 
     -- h is the number of the two octets there
     module _ (p : at + 2 ≤ length s) (h : ℕ) (e : h ≡ be_at 2 s at) where
-      pub message-mark : h ≡ 0 → message_read version s at ≡ message.End
+      pub message-mark : h ≡ 0 → message_read version s at ≡ Ok None
       unfolding message_read message_meant address_message_in end_mark
       message-mark q = rw (ne_eqb _ _ o, le-leb _ _ p, ← e, eq-eqb _ _ q)
 
-      -- n is what is wrong with type and AttributeLength
-      module _ (q : h ≡ 0 → ⊥) (n : ℕ) (i : n ≡ header_number (address_header version (get_or s at 0) (get_or s (at + 1) 0))) where
-        pub message-refused : (n ≡ 0 → ⊥) → message_read version s at ≡ message.Refused n
+      -- a is what was found of type and AttributeLength
+      module _ (q : h ≡ 0 → ⊥) (a : Result (Unit {0}) Refusal) (i : a ≡ header_answer (address_header version (get_or s at 0) (get_or s (at + 1) 0))) where
+        pub message-refused : (r : Refusal) → a ≡ Err r → message_read version s at ≡ Err r
         unfolding message_read address_message_in
-        message-refused r =
+        message-refused r k =
             rw (ne_eqb _ _ o, mark-other s at h e q, le-ltb _ _ p)
-            (header-meant s at (address_header version (get_or s at 0) (get_or s (at + 1) 0)) (λ z. r (i ∙ z)) ∙ ap message.Refused (sym i))
+            (header-meant s at (address_header version (get_or s at 0) (get_or s (at + 1) 0)) r (sym i ∙ k))
 
-        pub message-list : n ≡ 0 → message_read version s at ≡ message.List record { kind = get_or s at 0; octets = get_or s (at + 1) 0; list = at + 2 }
+        pub message-list : a ≡ Ok tt → message_read version s at ≡ Ok (Some record { kind = get_or s at 0; octets = get_or s (at + 1) 0; list = at + 2 })
         unfolding message_read message_meant address_message_in
-        message-list r =
-            rw (ne_eqb _ _ o, mark-other s at h e q, le-ltb _ _ p, header-listed version (get_or s at 0) (get_or s (at + 1) 0) (sym i ∙ r))
+        message-list k =
+            rw (ne_eqb _ _ o, mark-other s at h e q, le-ltb _ _ p, header-listed version (get_or s at 0) (get_or s (at + 1) 0) (sym i ∙ k))
 
 -- The vector at a place of a list.
 
@@ -127,7 +111,7 @@ module _ (version : ℕ) (t : AddressList) (s : List ℕ) (at : ℕ) where
   by r e = rw e
 
   -- only a vector that is read has values to check
-  pub typed-other : (v : VectorRead) → v ≡ vector_read version (first_octets t) false s at → ((w : VectorHead) → v ≡ vector.Vector w → ⊥)
+  pub typed-other : (v : Result VectorRead Refusal) → v ≡ vector_read version (first_octets t) false s at → ((w : VectorHead) → v ≡ Ok (vector.Vector w) → ⊥)
       → typed_read version t s at ≡ v
   unfolding vector_read addresses_checked vector_meant
   typed-other v e p = go (vector_in version (first_octets t) false s at) refl
@@ -138,17 +122,20 @@ module _ (version : ℕ) (t : AddressList) (s : List ℕ) (at : ℕ) where
       go (vector_head h) i = absurd (p _ (e ∙ ap (vector_meant (first_octets t) false at) i))
       go (passed_over h) i = by (passed_over h) i ∙ sym (e ∙ ap (vector_meant (first_octets t) false at) i)
 
+  pub typed-refused : (r : Refusal) → vector_read version (first_octets t) false s at ≡ Err r → typed_read version t s at ≡ Err r
+  typed-refused r a = typed-other (Err r) (sym a) (λ w k. let z : ◌≡◌ {A = ℕ} 0 1 = cc in absurd (omega arith))
+
   -- w is the head of one that is read
-  module _ (w : VectorHead) (a : vector_read version (first_octets t) false s at ≡ vector.Vector w) where
+  module _ (w : VectorHead) (a : vector_read version (first_octets t) false s at ≡ Ok (vector.Vector w)) where
     abbrev there : Headed (first_octets t) false at (vector_in version (first_octets t) false s at) w
     there = read_head (first_octets t) false at _ w (unfold vector_read in a)
 
-    first-value : first_part s (vector.Vector w) ≡ part (at + 2) (first_octets t) s
+    first-value : first_part s w ≡ part (at + 2) (first_octets t) s
     first-value =
-        ap (λ (u : VectorHead). first_part s (vector.Vector u)) (sym there.head)
+        ap (λ (u : VectorHead). first_part s u) (sym there.head)
         ∙ first-here version (first_octets t) false s at there.header there.is
 
-    pub first-length : length (first_part s (vector.Vector w)) ≡ first_octets t
+    pub first-length : length (first_part s w) ≡ first_octets t
     unfolding vector_end
     first-length =
         let f = (fitting version (first_octets t) false s at there.header there.is).fits in
@@ -161,20 +148,20 @@ module _ (version : ℕ) (t : AddressList) (s : List ℕ) (at : ℕ) where
     pub few-values : w.values < 8192
     few-values = omega (arith, value-count)
 
-    tested : typed_read version t s at ≡ cond (overruns t (first_part s (vector.Vector w)) w.values) (vector.Refused 7) (vector.Vector w)
+    tested : typed_read version t s at ≡ cond (overruns t (first_part s w) w.values) (Err refusal.Value) (Ok (vector.Vector w))
     unfolding addresses_checked
     tested = by (vector_head there.header) there.is ∙ rw (first-value, value-count) (go (overruns t (part (at + 2) (first_octets t) s) w.values))
       where
-        go : (x : Bool) → vector_meant (first_octets t) false at (cond x (bad_vector 7) (vector_head there.header)) ≡ cond x (vector.Refused 7) (vector.Vector w)
-        go true = unfold vector_meant in refl
-        go false = unfold vector_meant in (ap vector.Vector there.head)
+        go : (x : Bool) → vector_meant (first_octets t) false at (cond x (bad_vector 7) (vector_head there.header)) ≡ cond x (Err refusal.Value) (Ok (vector.Vector w))
+        go true = unfold vector_meant refusal_of in refl
+        go false = unfold vector_meant in (ap (λ (u : VectorHead). Ok (vector.Vector u)) there.head)
 
     -- z is what its values gave
-    module _ (z : Bool) (i : z ≡ overruns t (first_part s (vector.Vector w)) w.values) where
-      pub typed-past : z ≡ true → typed_read version t s at ≡ vector.Refused 7
+    module _ (z : Bool) (i : z ≡ overruns t (first_part s w) w.values) where
+      pub typed-past : z ≡ true → typed_read version t s at ≡ Err refusal.Value
       typed-past q = tested ∙ rw (← i, q)
 
-      pub typed-within : z ≡ false → typed_read version t s at ≡ vector.Vector w
+      pub typed-within : z ≡ false → typed_read version t s at ≡ Ok (vector.Vector w)
       typed-within q = tested ∙ rw (← i, q)
 
 -- Values.

@@ -2,87 +2,81 @@
 // are read by crate msrpdu.
 #![tactic(auto)]
 
-ghost use Rattle.std.specs.Prelude.{◌≡◌, ◌≤◌, length};
-ghost use Rattle.model.specs.AddressFrames.{first_octets, address_header, overruns, address_walk};
-ghost use Rattle.mmrpdu.specs.Reader.{list_named, header_number, message_read, typed_read, number_of, address_in};
+ghost use Rattle.std.specs.Prelude.{◌≡◌, ◌≤◌, length, suc};
+ghost use Rattle.model.specs.Numbers.{answer_number};
+ghost use Rattle.model.specs.AddressFrames.{first_octets, address_header, overruns, address_vectors, address_walk};
+ghost use Rattle.mmrpdu.specs.Reader.{list_named, header_answer, message_read, typed_read, list_answer, number_of, address_in};
 
-use model::{pdu, refusal};
-use msrpdu::{ValueRead, VectorRead};
+use model::pdu;
+use model::refusal::Refusal;
+use msrpdu::VectorRead;
 
 // A Message: its AttributeType octet, its AttributeLength and the place of its list.
-#[derive(Clone, Copy)]
+#[derive(Clone, Copy, PartialEq, Eq, Debug)]
 pub struct MessageHead {
     pub kind: u8,
     pub octets: usize,
     pub list: usize,
 }
 
-// What stands at a place of a PDU.
-#[derive(Clone, Copy)]
-pub enum MessageRead {
-    Refused(u8),
-    End,
-    List(MessageHead),
-}
-
-// What is wrong with a Message's type and AttributeLength, or 0.
-fn header_fault(version: u8, kind: u8, octets: usize) -> u8
-    ensures { result ≡ header_number (address_header version kind octets) }
+// Whether a Message's type and AttributeLength are in order.
+#[tactic(auto, unfolding(crate::specs::Reader::header_answer, model::specs::AddressFrames::address_header, model::specs::Numbers::refusal_of))]
+fn check_header(version: u8, kind: u8, octets: usize) -> Result<(), Refusal>
+    ensures { result ≡ header_answer (address_header version kind octets) }
 {
     match kind {
-        0 => refusal::ATTRIBUTE_TYPE,
+        0 => Err(Refusal::AttributeType),
         1 => {
             if octets == pdu::SERVICE {
-                return refusal::ACCEPTED;
+                return Ok(());
             }
-            refusal::ATTRIBUTE_LENGTH
+            Err(Refusal::AttributeLength)
         }
         2 => {
             if octets == pdu::MAC {
-                return refusal::ACCEPTED;
+                return Ok(());
             }
-            refusal::ATTRIBUTE_LENGTH
+            Err(Refusal::AttributeLength)
         }
         3..=255 => {
             if version == 0 {
-                return refusal::ATTRIBUTE_TYPE;
+                return Err(Refusal::AttributeType);
             }
-            refusal::ACCEPTED
+            Ok(())
         }
     }
 }
 
-// The Message at a place of a PDU of a version: its checks, in the paper's order.
-pub fn message(pdu: &[u8], version: u8, at: usize) -> MessageRead
+// The Message at a place of a PDU of a version, none at its end: its checks, in the paper's order.
+// MSRP's reader shares the test for an EndMark alone: a Message has no list length here, and ends where its list does.
+pub fn message(pdu: &[u8], version: u8, at: usize) -> Result<Option<MessageHead>, Refusal>
     ensures { result ≡ message_read version pdu.now at }
 {
     let n = pdu.len();
     if at == n {
-        return MessageRead::End;
+        return Ok(None);
     }
     if n < 2 {
-        return MessageRead::Refused(refusal::PAST_END);
+        return Err(Refusal::PastEnd);
     }
     if n - 2 < at {
-        return MessageRead::Refused(refusal::PAST_END);
+        return Err(Refusal::PastEnd);
     }
     if octets::get(pdu, at, 2) == 0 {
-        return MessageRead::End;
+        return Ok(None);
     }
     let kind = pdu[at];
     let octets = pdu[at + 1] as usize;
-    let fault = header_fault(version, kind, octets);
-    if fault == 0 {
-        return MessageRead::List(MessageHead {
-            kind: kind,
-            octets: octets,
-            list: at + 2,
-        });
-    }
-    MessageRead::Refused(fault)
+    check_header(version, kind, octets)?;
+    Ok(Some(MessageHead {
+        kind,
+        octets,
+        list: at + 2,
+    }))
 }
 
 // The octets of FirstValue in a list of a type and an AttributeLength.
+#[tactic(auto, unfolding(model::specs::AddressFrames::first_octets, crate::specs::Reader::list_named))]
 fn first_octets(kind: u8, octets: usize) -> usize
     ensures { result ≡ first_octets (list_named kind octets) }
 {
@@ -110,69 +104,75 @@ fn runs_out(kind: u8, first: &[u8], values: usize) -> bool
 
 // The vector at a place of a list of a type and an AttributeLength, in a PDU of a version: the values of one that is not passed
 // over are checked last.
-pub fn typed_vector(pdu: &[u8], at: usize, version: u8, kind: u8, octets: usize) -> VectorRead
+// MSRP's differs in how values run out, and in its EndMark, which must be the last two octets of a list.
+pub fn typed_vector(
+    pdu: &[u8],
+    at: usize,
+    version: u8,
+    kind: u8,
+    octets: usize,
+) -> Result<VectorRead, Refusal>
     ensures { result ≡ typed_read version (list_named kind octets) pdu.now at }
 {
     let width = first_octets(kind, octets);
-    let v = msrpdu::vector(pdu, at, version, width, false);
-    let VectorRead::Vector(w) = v else {
-        return v;
+    let read = msrpdu::vector(pdu, at, version, width, false)?;
+    let VectorRead::Vector(head) = read else {
+        return Ok(read);
     };
-    let values = w.values;
-    let first = msrpdu::first_value(pdu, v);
-    if runs_out(kind, first, values) {
-        return VectorRead::Refused(refusal::VALUE);
+    let first = msrpdu::first_value_at(pdu, head);
+    if runs_out(kind, first, head.values) {
+        return Err(Refusal::Value);
     }
-    v
+    Ok(read)
 }
 
-// The whole checked walk: 0, or the number of the first fault met.
-pub fn check(pdu: &[u8]) -> u8
-    ensures { result ≡ number_of (address_walk pdu.now) }
+// The checked walk over a Message's list, vector by vector: the place behind its EndMark. A walk of MSRP has a list's length and reads
+// the list alone, from its start: what both walks share is the `match`, and one of both would take a vector reader with three clauses.
+fn check_list(pdu: &[u8], version: u8, head: MessageHead) -> Result<usize, Refusal>
+    requires { head.list ≤ length pdu.now }
+    ensures { result ≡ list_answer (address_vectors (suc (length pdu.now)) version (list_named head.kind head.octets) pdu.now head.list) }
 {
-    let n = pdu.len();
-    if n == 0 {
-        return refusal::PDU_LENGTH;
-    }
-    if pdu::LONGEST < n {
-        return refusal::PDU_LENGTH;
-    }
-    let version = pdu[0];
-    let mut at: usize = 1;
-    'messages: loop {
-        let m = message(pdu, version, at);
-        match m {
-            MessageRead::Refused(number) => break 'messages number,
-            MessageRead::End => break 'messages refusal::ACCEPTED,
-            MessageRead::List(head) => {
-                let kind = head.kind;
-                let octets = head.octets;
-                let mut reached = head.list;
-                loop {
-                    let v = typed_vector(pdu, reached, version, kind, octets);
-                    match v {
-                        VectorRead::Refused(number) => break 'messages number,
-                        VectorRead::EndMark => break,
-                        VectorRead::Vector(w) => reached = w.next,
-                        VectorRead::PassedOver(next) => reached = next,
-                    }
-                }
-                at = reached + 2;
-            }
+    let mut at = head.list;
+    loop {
+        match typed_vector(pdu, at, version, head.kind, head.octets)? {
+            VectorRead::EndMark => return Ok(at + 2),
+            VectorRead::Vector(vector) => at = vector.next,
+            VectorRead::PassedOver(next) => at = next,
         }
     }
 }
 
-// The address of value n of a MAC FirstValue.
-pub fn address(first: &[u8], n: usize) -> ValueRead
+// The whole checked walk: refused by the first fault met.
+pub fn check(pdu: &[u8]) -> Result<(), Refusal>
+    ensures { answer_number result ≡ number_of (address_walk pdu.now) }
+{
+    let n = pdu.len();
+    if n == 0 {
+        return Err(Refusal::PduLength);
+    }
+    if pdu::LONGEST < n {
+        return Err(Refusal::PduLength);
+    }
+    let version = pdu[0];
+    let mut at: usize = 1;
+    while let Some(head) = message(pdu, version, at)? {
+        at = check_list(pdu, version, head)?;
+    }
+    Ok(())
+}
+
+// The address of value n of a MAC FirstValue; none past the last address.
+// A StreamID grows in its last 16 bits and an address in all 48, so each has its own test for the end.
+#[tactic(auto, unfolding(crate::specs::Reader::address_in, msrpdu::specs::Reader::value_in))]
+pub fn address(first: &[u8], n: usize) -> Option<u64>
     ensures { result ≡ address_in first.now n }
 {
     if first.len() < pdu::MAC {
-        return ValueRead::Past;
+        return None;
     }
     let mac = octets::get(first, 0, pdu::MAC);
     if 281474976710655 - mac < (n as u64) {
-        return ValueRead::Past;
+        return None;
     }
-    ValueRead::Value(mac + (n as u64))
+    Some(mac + (n as u64))
 }

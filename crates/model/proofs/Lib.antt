@@ -1,3 +1,4 @@
+pub mod Numbers
 pub mod Lists
 pub mod StepNames
 pub mod ApplicantEntries
@@ -88,3 +89,4 @@ pub mod Demand3
 pub mod Dropping
 pub mod SettledSends
 pub mod AddressRoom
+pub mod Attributes

@@ -23,3 +23,7 @@ pub mod Sending
 pub mod Table
 pub mod Calls
 pub mod Laid
+pub mod Attributes
+pub mod Numbers
+pub mod Events
+pub mod Listeners

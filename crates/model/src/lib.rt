@@ -1,9 +1,12 @@
-// The definitions of the bridge stand in specs/, the theorems about them in proofs/. The toolchain wants one function in
-// a crate.
+// The definitions of the bridge stand in specs/, the theorems about them in proofs/; here stand the constants and enums that the crates
+// share.
 #![tactic(auto)]
 
 ghost use Rattle.std.specs.Prelude.{◌≡◌};
 
+pub mod attribute;
+pub mod event;
+pub mod listener;
 pub mod pdu;
 pub mod refusal;
 

@@ -2,7 +2,7 @@
 use mathlib.Core.Path.{◌≡◌, refl, sym, ◌∙◌, ap}
 use mathlib.Core.List.{List, [], ◌∷◌, ◌++◌, map, append_assoc}
 use mathlib.Core.Bool.{Bool, not}
-use Prim.Native.Nat.{ℕ, zero, suc, ◌<◌}
+use Prim.Native.Nat.{ℕ, zero, suc, ◌≤◌, ◌<◌}
 use native.Mathlib.Omega.{arith}
 use lib.ListN.{length, get_or, set}
 use lib.Seq.{set-get_or}
@@ -26,7 +26,7 @@ use Rattle.table.proofs.Lens.{at_set}
 use Rattle.moving.specs.declared.Span.{Span}
 use Rattle.moving.specs.declared.Met.{Met}
 use Rattle.moving.specs.Moves.{moved_by, octet_by, met_by, slot_moved, met_slot, MovedSender, all_sent}
-use Rattle.moving.proofs.One.{octet_left, moved-octet, none-moved, state_octet, none_stays, no-machine-met, machine-met}
+use Rattle.moving.proofs.One.{octet_left, moved-octet, none-moved, state_octet, state_few, none_stays, no-machine-met, machine-met}
 
 -- Applicants of Domain values: each is one octet.
 
@@ -107,6 +107,9 @@ module _ (w : Span) (m : Met) (r : Bool) (s : List ℕ) (l : LaidSender s) (k : 
       ap (λ (a : ℕ). get_or s a 0) p
       ∙ ap (λ (t : List ℕ). get_or t k 0) (laid-sender-is s l)
       ∙ slot-there w m.count r k x.domains (leave_all_octets x.leave_all) a-slot
+
+  pub slot_few : get_or s place 0 ≤ 6
+  slot_few = rw octet-is (state_few a)
 
   pub no-slot-met : get_or s place 0 ≡ 0 → MovedSender w m r k s m s
   unfolding slot_moved met_slot

@@ -2,7 +2,7 @@
 use mathlib.Core.Path.{◌≡◌, refl, sym, ◌∙◌, ap}
 use mathlib.Core.List.{List, [], ◌++◌, append-nil}
 use mathlib.Core.Bool.{Bool, not}
-use Prim.Native.Nat.{ℕ, zero, suc, ◌+◌, ◌≤◌}
+use Prim.Native.Nat.{ℕ, suc, ◌+◌, ◌≤◌}
 use native.Mathlib.Omega.{arith}
 use lib.ListN.{length, get_or}
 use lib.Dec.{eqb}
@@ -19,19 +19,10 @@ use Rattle.model.proofs.ApplicantOctets.{applicant-coded, both_values}
 use Rattle.model.proofs.Valid.{GoodApplicant}
 use Rattle.model.proofs.SendsOctets.{offer-values, failure-values, ready-values, AnyReady}
 use Rattle.model.proofs.Fits.{fit-sends, laid-sends-is, laid-sends-fits}
-use Rattle.cells.specs.Acts.{kind_at}
 use Rattle.moving.specs.declared.Span.{Span}
 use Rattle.moving.specs.declared.Met.{Met}
 use Rattle.moving.specs.Moves.{moved_by, octet_by, state_at, in_kind, behind_kind, met_by, met_sends, MovedSends}
-use Rattle.moving.proofs.One.{applicant-moved, state-behind, state-there, state_octet, none_stays, no-machine-met, machine-met}
-
--- an AttributeType that is neither Advertise nor Failed is Listener
-pub kind-other : (n : ℕ) → (n ≡ 1 → ⊥) → (n ≡ 2 → ⊥) → kind_at n ≡ listeners
-unfolding kind_at
-kind-other zero a f = refl
-kind-other (suc zero) a f = absurd (a refl)
-kind-other (suc (suc zero)) a f = absurd (f refl)
-kind-other (suc (suc (suc n))) a f = refl
+use Rattle.moving.proofs.One.{applicant-moved, state-behind, state-there, state_octet, state_few, none_stays, no-machine-met, machine-met}
 
 any-ready : (a : Applicant Ready) → GoodApplicant AnyReady a
 any-ready no_applicant = tt
@@ -130,6 +121,14 @@ module _ (w : Span) (m : Met) (r : Bool) (s : List ℕ) (l : LaidSends s) (k : K
       ap (λ (a : ℕ). get_or s a 0) p
       ∙ ap (λ (t : List ℕ). get_or t (in_kind k) 0) (laid-sends-is s l)
       ∙ machine-octet w m.count r x (laid-sends-fits s l) k
+
+  pub sends_few : get_or s place 0 ≤ 6
+  sends_few = rw octet-is (few k)
+    where
+      few : (k : Kind) → machine_octet k x ≤ 6
+      few advertises = unfold machine_octet in state_few x.advertising
+      few faileds = unfold machine_octet in state_few x.failing
+      few listeners = unfold machine_octet in state_few x.listening
 
   pub no-sends-met : get_or s place 0 ≡ 0 → MovedSends w m k r s m s
   no-sends-met z = record {

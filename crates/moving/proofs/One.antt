@@ -2,7 +2,7 @@
 use mathlib.Core.Path.{◌≡◌, refl, sym, ◌∙◌, ap}
 use mathlib.Core.List.{List, [], ◌∷◌, ◌++◌, map}
 use mathlib.Core.Bool.{Bool, true, false, cond, not, ◌&&◌}
-use Prim.Native.Nat.{ℕ, suc, ◌+◌}
+use Prim.Native.Nat.{ℕ, suc, ◌+◌, ◌≤◌}
 use native.Mathlib.Nat.{add-zero, zero-add, suc-add}
 use native.Mathlib.Numerals.{add-one}
 use native.Mathlib.Omega.{arith}
@@ -13,7 +13,7 @@ use borrow.Author.Tests.{eq-eqb, ne_eqb}
 use Rattle.octets.specs.Parts.{patch, zeros}
 use Rattle.octets.proofs.Fields.{patch-behind}
 use Rattle.model.specs.Lists.{bit}
-use Rattle.model.specs.Applicant.{ApplicantState, vo, vp, vn, an, aa, qa, la, lo, ApplicantEvent, tx_la, tx_laf, opportunity, ApplicantEntry, applicant_row, applicant_column, to, applicant_entry, Standing, named, standing, becomes, state_of, octet_of, step}
+use Rattle.model.specs.Applicant.{ApplicantState, vo, vp, vn, an, aa, qa, la, lo, ApplicantEvent, tx_laf, opportunity, ApplicantEntry, applicant_row, applicant_column, to, applicant_entry, Standing, named, standing, becomes, state_of, octet_of, step}
 use Rattle.model.specs.Machines.{Applicant, no_applicant, applicant, with, applicant_of, moved}
 use Rattle.model.specs.Settling.{is_applicant}
 use Rattle.model.specs.Writing.{moved_at}
@@ -56,11 +56,8 @@ row-alike : (r : Bool) (e : ApplicantEvent) → applicant_row r e ≡ applicant_
 unfolding step applicant_entry
 row-alike r e h n = ap (λ (row : List ApplicantEntry). octet_of (get_or row (applicant_column (state_of n)) (to (state_of n))).next) h
 
-pub leaving-all-alike : (r : Bool) (n : ℕ) → step r tx_la n ≡ step false tx_la n
-leaving-all-alike r n = row-alike r tx_la (unfold applicant_row in refl) n
-
-pub left-out-alike : (r : Bool) (n : ℕ) → step r tx_laf n ≡ step false tx_laf n
-left-out-alike r n = row-alike r tx_laf (unfold applicant_row in refl) n
+pub left_out_alike : (r : Bool) (n : ℕ) → step r tx_laf n ≡ step false tx_laf n
+left_out_alike r n = row-alike r tx_laf (unfold applicant_row in refl) n
 
 module _ (w : Span) (i : ℕ) (r : Bool) where
   pub moved-octet : (q : Standing) → octet_by w i r (standing_number q) ≡ octet_left (moved_by w i r q)
@@ -128,6 +125,11 @@ state-there x y m i e = rw (← e) (get_or-append-add x y i 0)
 unfoldable pub state_octet : {A : Type 0} → Applicant A → ℕ
 state_octet no_applicant = 0
 state_octet (applicant x) = standing_number x.state
+
+pub state_few : {A : Type 0} (a : Applicant A) → state_octet a ≤ 6
+unfolding state_octet
+state_few no_applicant = omega arith
+state_few (applicant x) = (standing-few x.state).1
 
 pub counted-octet : {A : Type 0} (a : Applicant A) → bit (is_applicant a) ≡ bit (not (eqb (state_octet a) 0))
 unfolding state_octet is_applicant

@@ -180,16 +180,12 @@ pub record SenderGiven (s : List ℕ) (i : ℕ) (m : Met) : Type 0 where
   pub slot : i < slots
   pub few : Few m 256
 
-pub record StreamGiven (t : List ℕ) (k p kind : ℕ) (m : Met) : Type 0 where
+pub record StreamGiven (t : List ℕ) (k p : ℕ) (m : Met) : Type 0 where
   pub stands : StandsOn t k p
-  pub low : 1 ≤ kind
-  pub high : kind ≤ 3
   pub few : Few m 256
 
-pub record KindGiven (t : List ℕ) (p kind : ℕ) (m : Met) : Type 0 where
+pub record KindGiven (t : List ℕ) (p : ℕ) (m : Met) : Type 0 where
   pub port : PortIn t p
-  pub low : 1 ≤ kind
-  pub high : kind ≤ 3
   pub few : Few m 128
 
 pub record SlotGiven (t : List ℕ) (p i : ℕ) (m : Met) : Type 0 where

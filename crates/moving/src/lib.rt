@@ -3,6 +3,7 @@
 #![tactic(auto)]
 
 ghost use Rattle.std.specs.Prelude.{◌≡◌, eqb, true, cond, not, ℕ, ◌+◌, ◌≤◌, ◌<◌, length};
+ghost use Rattle.model.specs.Attributes.{kind_of};
 ghost use Rattle.model.specs.Lists.{bit};
 ghost use Rattle.model.specs.Layout.{sends_size, sender_size};
 ghost use Rattle.model.specs.Applicant.{tx_laf, opportunity, step};
@@ -11,10 +12,12 @@ ghost use Rattle.model.specs.Table.{decode};
 ghost use Rattle.model.specs.Laid.{LaidSender};
 ghost use Rattle.model.specs.Writing.{own_leave_all};
 ghost use Rattle.table.specs.Places.{PortIn};
-ghost use Rattle.cells.specs.Acts.{kind_at};
+ghost use Rattle.applicants.specs.Octets.{octet};
 ghost use Rattle.registrar.specs.Walked.{Walked};
 ghost use Rattle.moving.specs.Moves.{octet_by, state_at, in_kind, behind_kind, met_by, Few, all_sent, leave_all_sent, Encodes, MovedTypes, ListMoved, MovedStream, MovedKind, MovedSlot, MovedDomains, MovedSends, MovedSender, SendsGiven, StreamGiven, KindGiven, SenderGiven, SlotGiven, DomainsGiven};
 
+use applicants::Applicant;
+use model::attribute::{StreamAttribute, TalkerAttribute};
 use table::sender::{APPLICANTS, LEAVE_ALL};
 use table::sends::{ADVERTISED, ADVERTISING, FAILED, FAILING, LISTENED, LISTENING};
 
@@ -33,120 +36,110 @@ pub struct Met {
     pub left: usize,
 }
 
-// An Applicant's octet after tx!, or with LeaveAll after txLA!.
-fn after_opportunity(state: u8, registered: bool, all: bool) -> u8
-    ensures { result ≡ step registered (opportunity all) state }
+// An Applicant after the write, at place i of the port's list: what the PDU reaches gets tx!, with LeaveAll txLA!, and with LeaveAll
+// all others get txLAF!.
+#[tactic(auto, using(crate::proofs::One::left_out_alike), unfolding(crate::specs::Moves::octet_by))]
+fn after(state: Applicant, registered: bool, span: Span, i: usize) -> Applicant
+    ensures { octet result ≡ octet_by span i registered (octet state) }
 {
-    if all {
-        return applicants::written_leaving_all(state);
+    if span.place <= i && i < span.end {
+        return state.written(registered, span.all);
     }
-    applicants::written(state, registered)
-}
-
-// Where the PDU does not reach it: txLAF! with LeaveAll.
-fn after_others(state: u8, registered: bool, all: bool) -> u8
-    ensures { result ≡ cond all (step registered tx_laf state) state }
-{
-    if all {
-        return applicants::left_out(state);
+    if span.all {
+        return state.left_out();
     }
     state
 }
 
-// After the write, at place i of the port's list.
-fn after(state: u8, registered: bool, span: Span, i: usize) -> u8
-    ensures { result ≡ octet_by span i registered state }
-{
-    if i < span.place {
-        return after_others(state, registered, span.all);
-    }
-    if i < span.end {
-        return after_opportunity(state, registered, span.all);
-    }
-    after_others(state, registered, span.all)
-}
-
-// The state of the Applicant at a place; where it goes, so do the values behind it.
-fn put_state(sent: &mut [u8], at: usize, values: usize, state: u8)
+// The Applicant at a place; where it goes, so do the values behind it.
+#[tactic(auto, unfolding(crate::specs::Moves::state_at))]
+fn put_state(sent: &mut [u8], at: usize, values: usize, state: Applicant)
     requires { at + 1 + values ≤ length sent.old }
-    ensures { sent.new ≡ state_at at values state sent.old }
+    ensures { sent.new ≡ state_at at values (octet state) sent.old }
 {
-    if state == 0 {
+    if state.is_none() {
         octets::clear(sent, at, values + 1);
         return;
     }
-    sent[at] = state;
+    sent[at] = state as u8;
 }
 
 // The place of the Applicant of an AttributeType.
-fn place_of(kind: u8) -> usize
-    ensures { (result ≡ in_kind (kind_at kind)) × (result < sends_size) }
+#[tactic(auto, unfolding(crate::specs::Moves::in_kind))]
+fn place_of(attribute: StreamAttribute) -> usize
+    ensures { (result ≡ in_kind (kind_of attribute)) × (result < sends_size) }
 {
-    if kind == 1 {
-        return ADVERTISING;
+    match attribute {
+        StreamAttribute::Talker(TalkerAttribute::Advertise) => ADVERTISING,
+        StreamAttribute::Talker(TalkerAttribute::Failed) => FAILING,
+        StreamAttribute::Listener => LISTENING,
     }
-    if kind == 2 {
-        return FAILING;
-    }
-    LISTENING
 }
 
 // The octets of the values behind it.
-fn values_of(kind: u8) -> usize
-    ensures { result ≡ behind_kind (kind_at kind) }
+#[tactic(auto, unfolding(crate::specs::Moves::behind_kind))]
+fn values_of(attribute: StreamAttribute) -> usize
+    ensures { result ≡ behind_kind (kind_of attribute) }
 {
-    if kind == 1 {
-        return FAILING - ADVERTISED;
+    match attribute {
+        StreamAttribute::Talker(TalkerAttribute::Advertise) => FAILING - ADVERTISED,
+        StreamAttribute::Talker(TalkerAttribute::Failed) => LISTENING - FAILED,
+        StreamAttribute::Listener => table::SENDS - LISTENED,
     }
-    if kind == 2 {
-        return LISTENING - FAILED;
-    }
-    table::SENDS - LISTENED
 }
 
 // How far the moves are behind a machine: it is met, and where it stands before the end and is left it is counted.
-fn counted(from: Met, span: Span, state: u8) -> Met
+#[tactic(auto, unfolding(crate::specs::Moves::met_by, model::specs::Lists::bit))]
+fn counted(from: Met, span: Span, state: Applicant) -> Met
     requires { Few from 256 }
-    ensures { result ≡ met_by span from 1 (bit (not (eqb state 0))) }
+    ensures { result ≡ met_by span from 1 (bit (not (eqb (octet state) 0))) }
 {
-    let count = from.count + 1;
-    let left = from.left;
-    if span.end <= from.count {
-        return Met { count, left };
+    let mut met = from;
+    met.count += 1;
+    if from.count < span.end && !state.is_none() {
+        met.left += 1;
     }
-    if state == 0 {
-        return Met { count, left };
-    }
-    Met {
-        count,
-        left: left + 1,
-    }
+    met
 }
 
 // What the port sends of a stream: the Applicant of an AttributeType, where there is one.
-fn move_sent(sends: &mut [u8], kind: u8, registered: bool, span: Span, from: Met) -> Met
+fn move_sent(
+    sends: &mut [u8],
+    attribute: StreamAttribute,
+    registered: bool,
+    span: Span,
+    from: Met,
+) -> Met
     requires { SendsGiven sends.old from }
-    ensures { MovedSends span from (kind_at kind) registered sends.old result sends.new }
+    ensures { MovedSends span from (kind_of attribute) registered sends.old result sends.new }
 {
-    let at = place_of(kind);
-    if sends[at] == 0 {
+    let at = place_of(attribute);
+    let state = Applicant::from(sends[at]);
+    if state.is_none() {
         return from;
     }
-    let state = after(sends[at], registered, span, from.count);
-    put_state(sends, at, values_of(kind), state);
-    counted(from, span, state)
+    let next = after(state, registered, span, from.count);
+    put_state(sends, at, values_of(attribute), next);
+    counted(from, span, next)
 }
 
 // The machine of an AttributeType that stream k has on port p.
-fn move_stream(table: &mut [u8], k: usize, p: usize, kind: u8, span: Span, from: Met) -> Met
-    requires { StreamGiven table.old k p kind from }
-    ensures { MovedStream span from (kind_at kind) k p table.old result table.new }
+fn move_stream(
+    table: &mut [u8],
+    k: usize,
+    p: usize,
+    attribute: StreamAttribute,
+    span: Span,
+    from: Met,
+) -> Met
+    requires { StreamGiven table.old k p from }
+    ensures { MovedStream span from (kind_of attribute) k p table.old result table.new }
 {
-    let registered = cells::is_registered(table::cell_at(table, k, p), kind);
+    let registered = cells::is_registered(table::cell_at(table, k, p), attribute);
     let a = table::sends_in(table, k, p);
     move_sent(
         &mut table[a..a + table::SENDS],
-        kind,
+        attribute,
         registered,
         span,
         from,
@@ -154,32 +147,31 @@ fn move_stream(table: &mut [u8], k: usize, p: usize, kind: u8, span: Span, from:
 }
 
 // The same of each stream.
-fn move_kind(table: &mut [u8], p: usize, kind: u8, span: Span, from: Met) -> Met
-    requires { KindGiven table.old p kind from }
-    ensures { MovedKind span from (kind_at kind) p table.old result table.new }
+fn move_kind(table: &mut [u8], p: usize, attribute: StreamAttribute, span: Span, from: Met) -> Met
+    requires { KindGiven table.old p from }
+    ensures { MovedKind span from (kind_of attribute) p table.old result table.new }
 {
-    let held = table::count(table);
     let mut so_far = from;
-    let mut k: usize = 0;
-    while k < held {
-        so_far = move_stream(table, k, p, kind, span, so_far);
-        k += 1;
+    for k in 0..table::count(table) {
+        so_far = move_stream(table, k, p, attribute, span, so_far);
     }
     so_far
 }
 
 // What the port sends by itself: the Applicant of the Domain value in a slot, where there is one.
+// A Domain value's Applicant has no values behind it and stands in other octets: after and counted are what streams' share with it.
 fn move_slot(sender: &mut [u8], slot: usize, registered: bool, span: Span, from: Met) -> Met
     requires { SenderGiven sender.old slot from }
     ensures { MovedSender span from registered slot sender.old result sender.new }
 {
     let at = APPLICANTS + slot;
-    if sender[at] == 0 {
+    let state = Applicant::from(sender[at]);
+    if state.is_none() {
         return from;
     }
-    let state = after(sender[at], registered, span, from.count);
-    sender[at] = state;
-    counted(from, span, state)
+    let next = after(state, registered, span, from.count);
+    sender[at] = next as u8;
+    counted(from, span, next)
 }
 
 // The machine that port p has for the Domain value in a slot.
@@ -205,10 +197,8 @@ fn move_domains(table: &mut [u8], p: usize, span: Span, from: Met) -> Met
     ensures { MovedDomains span from p table.old result table.new }
 {
     let mut so_far = from;
-    let mut slot: usize = 0;
-    while slot < table::SLOTS {
+    for slot in 0..table::SLOTS {
         so_far = move_domain(table, p, slot, span, so_far);
-        slot += 1;
     }
     so_far
 }
@@ -226,9 +216,13 @@ fn leave_own(table: &mut [u8], p: usize)
     requires { PortIn table.old p }
     ensures { Walked true p (own_leave_all true) table.old true table.new }
 {
-    registrar::leave_all(table, p, 1);
-    registrar::leave_all(table, p, 2);
-    registrar::leave_all(table, p, 3);
+    registrar::leave_all(
+        table,
+        p,
+        StreamAttribute::Talker(TalkerAttribute::Advertise),
+    );
+    registrar::leave_all(table, p, StreamAttribute::Talker(TalkerAttribute::Failed));
+    registrar::leave_all(table, p, StreamAttribute::Listener);
     registrar::leave_domains(table, p);
 }
 
@@ -250,9 +244,11 @@ fn move_streams(table: &mut [u8], p: usize, span: Span) -> Met
     ensures { MovedTypes span p table.old result table.new }
 {
     let none = Met { count: 0, left: 0 };
-    let advertises = move_kind(table, p, 1, span, none);
-    let faileds = move_kind(table, p, 2, span, advertises);
-    move_kind(table, p, 3, span, faileds)
+    let advertise = StreamAttribute::Talker(TalkerAttribute::Advertise);
+    let failed = StreamAttribute::Talker(TalkerAttribute::Failed);
+    let advertises = move_kind(table, p, advertise, span, none);
+    let faileds = move_kind(table, p, failed, span, advertises);
+    move_kind(table, p, StreamAttribute::Listener, span, faileds)
 }
 
 // What a write of port p does to the table; the next place.

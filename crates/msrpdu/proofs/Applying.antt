@@ -2,6 +2,7 @@
 -- vectors that are left after each step. Assumes nothing.
 use mathlib.Core.Path.{◌≡◌, refl, sym, ap, subst, ◌∙◌}
 use mathlib.Core.List.{List, [], ◌∷◌, ◌++◌, append_assoc}
+use Rattle.std.specs.Prelude.{Ok, Err}
 use Prim.Native.Nat.{ℕ, suc, ◌+◌, ◌-◌, ◌%◌, ◌≤◌}
 use native.Mathlib.Omega.{arith}
 use lib.ListN.{length, get_or, take, drop}
@@ -11,16 +12,18 @@ use Rattle.octets.specs.Be.{be_at}
 use Rattle.octets.specs.Parts.{part}
 use Rattle.octets.proofs.Parts.{lent_length}
 use Rattle.model.specs.FrameLayout.{longest_pdu}
-use Rattle.model.specs.Frames.{Attribute, TypeOctet, not_allowed, unknown, known, type_octet, first_length, three_length, has_four, four_length, Vector, vector_at, vector_end, vector_head, typed_in, Walk, fault, found, messages, walk, vector_acts, frame_acts}
+use Rattle.model.specs.Attributes.{type_of}
+use Rattle.model.specs.Frames.{Attribute, TypeOctet, not_allowed, unknown, known, first_length, three_length, has_four, four_length, Vector, vector_at, vector_end, vector_head, typed_in, Walk, fault, found, messages, walk, vector_acts, frame_acts}
 use Rattle.model.proofs.Refusals.{walk-faults}
 use Rattle.model.proofs.FoundVectors.{no-fault, also-found, both_found, passed, passed-all, Sound, sound-at}
-use Rattle.msrpdu.specs.Reader.{head_of, head_vector, typed_read, message_read, number_of}
+use Rattle.model.specs.declared.refusal.Refusal.{Refusal}
+use Rattle.msrpdu.specs.Reader.{head_of, head_vector, typed_read, message_read, vectors_in, number_of}
 use Rattle.msrpdu.specs.declared.VectorHead.{VectorHead}
 use Rattle.msrpdu.specs.declared.VectorRead.TheVariants as vector
 use Rattle.msrpdu.specs.declared.MessageHead.{MessageHead}
 use Rattle.msrpdu.specs.declared.MessageRead.TheVariants as message
 use Rattle.msrpdu.proofs.Reading.{Headed, read_head, first-here}
-use Rattle.msrpdu.proofs.Walking.{vectors_in, vectors-refused, vectors-end, vectors-next, vectors-over, messages-refused, messages-end, messages-skipped, messages-list}
+use Rattle.msrpdu.proofs.Walking.{vectors-refused, vectors-end, vectors-next, vectors-over, messages-refused, messages-end, messages-skipped, messages-list}
 
 -- A vector that is read is the one that its head names.
 
@@ -31,7 +34,7 @@ head-vector version k l at h e =
     let f = first-here version (first_length k) (has_four k) l at h (passed-all version k l at h e).there in
     rw (f, lent_length (at + 2 + first_length k) (three_length (h % 8192)), lent_length (at + 2 + first_length k + three_length (h % 8192)) (four_length (has_four k) (h % 8192)))
 
-module _ (version : ℕ) (k : Attribute) (l : List ℕ) (at : ℕ) (w : VectorHead) (e : typed_read version (known k) l at ≡ vector.Vector w) where
+module _ (version : ℕ) (k : Attribute) (l : List ℕ) (at : ℕ) (w : VectorHead) (e : typed_read version (known k) l at ≡ Ok (vector.Vector w)) where
   abbrev there : Headed (first_length k) (has_four k) at (typed_in version k l at) w
   there = read_head (first_length k) (has_four k) at (typed_in version k l at) w (unfold typed_read in e)
 
@@ -64,46 +67,46 @@ pub record NextVector (f version : ℕ) (k : Attribute) (l : List ℕ) (at : ℕ
   pub left : vectors_in version (known k) f l w.next ≡ found rest
 
 module _ (f version : ℕ) (k : Attribute) (l : List ℕ) (at : ℕ) (vs : List Vector) (e : vectors_in version (known k) (suc f) l at ≡ found vs) where
-  pub found-next : (w : VectorHead) → typed_read version (known k) l at ≡ vector.Vector w → NextVector f version k l at w vs
+  pub found-next : (w : VectorHead) → typed_read version (known k) l at ≡ Ok (vector.Vector w) → NextVector f version k l at w vs
   unfolding vectors_in
   found-next w r =
       let a = also-found _ _ vs (sym (vectors-next f version k l at w r) ∙ e) in
       record { rest = a.0; first = a.2; left = a.1 }
 
-  pub found-over : (next : ℕ) → typed_read version (known k) l at ≡ vector.PassedOver next → vectors_in version (known k) f l next ≡ found vs
+  pub found-over : (next : ℕ) → typed_read version (known k) l at ≡ Ok (vector.PassedOver next) → vectors_in version (known k) f l next ≡ found vs
   unfolding vectors_in
   found-over next r = sym (vectors-over f version k l at next r) ∙ e
 
-  pub found-end : typed_read version (known k) l at ≡ vector.EndMark → vs ≡ []
+  pub found-end : typed_read version (known k) l at ≡ Ok vector.EndMark → vs ≡ []
   unfolding vectors_in
   found-end r = let h = vectors-end f version k l at r in cc
 
-  pub found-accepted : (n : ℕ) → typed_read version (known k) l at ≡ vector.Refused n → ⊥
+  pub found-accepted : (r : Refusal) → typed_read version (known k) l at ≡ Err r → ⊥
   unfolding vectors_in
-  found-accepted n r = let h = vectors-refused f version k l at n r in let z : ◌≡◌ {A = ℕ} 0 1 = cc in omega arith
+  found-accepted r q = let h = vectors-refused f version k l at r q in let z : ◌≡◌ {A = ℕ} 0 1 = cc (h.1) in omega arith
 
 -- a Message's vectors are the first of those left, and the others come after it
 pub record NextList (f version : ℕ) (s : List ℕ) (m : MessageHead) (vs : List Vector) : Type 0 where
   pub own : List Vector
   pub rest : List Vector
   pub split : vs ≡ own ++ rest
-  pub list : vectors_in version (type_octet 0 m.kind) (suc (m.next - m.list)) (take (m.next - m.list) (drop m.list s)) 0 ≡ found own
+  pub list : vectors_in version (known (type_of m.attribute)) (suc (m.next - m.list)) (take (m.next - m.list) (drop m.list s)) 0 ≡ found own
   pub left : messages f version s m.next ≡ found rest
 
 module _ (f version : ℕ) (s : List ℕ) (at : ℕ) (vs : List Vector) (e : messages (suc f) version s at ≡ found vs) where
-  pub found-list : (m : MessageHead) → message_read version s at ≡ message.List m → NextList f version s m vs
+  pub found-list : (m : MessageHead) → message_read version s at ≡ Ok (message.List m) → NextList f version s m vs
   found-list m r =
       let a = both_found _ _ vs (sym (messages-list f version s at m r) ∙ e) in
       record { own = a.0; rest = a.1; split = a.4; list = a.2; left = a.3 }
 
-  pub found-skipped : (next : ℕ) → message_read version s at ≡ message.Skipped next → messages f version s next ≡ found vs
+  pub found-skipped : (next : ℕ) → message_read version s at ≡ Ok (message.Skipped next) → messages f version s next ≡ found vs
   found-skipped next r = sym (messages-skipped f version s at next r) ∙ e
 
-  pub found-done : message_read version s at ≡ message.End → vs ≡ []
+  pub found-done : message_read version s at ≡ Ok message.End → vs ≡ []
   found-done r = let h = messages-end f version s at r in cc
 
-  pub found-allowed : (n : ℕ) → message_read version s at ≡ message.Refused n → ⊥
-  found-allowed n r = let h = messages-refused f version s at n r in let z : ◌≡◌ {A = ℕ} 0 1 = cc in omega arith
+  pub found-allowed : (r : Refusal) → message_read version s at ≡ Err r → ⊥
+  found-allowed r q = let h = messages-refused f version s at r q in let z : ◌≡◌ {A = ℕ} 0 1 = cc (h.1) in omega arith
 
 -- The acts of those left.
 

@@ -1,36 +1,26 @@
 // The reader of MSRPDUs (01, "The PDU"): each function's answer is that of the definitions in crate model, for every input.
 #![tactic(auto)]
 
-ghost use Rattle.std.specs.Prelude.{◌≡◌, ◌+◌, ◌^◌, ◌≤◌, ◌<◌, length, get_or};
-ghost use Rattle.model.specs.Frames.{type_octet, four_length, overpacked, header_in, walk, three_packed};
-ghost use Rattle.msrpdu.specs.Reader.{type_read, head_of, strange_read, vector_read, typed_read, first_part, message_meant, message_read, number_of, event_in, four_in, past_field, stream_id_in, domain_in};
+ghost use Rattle.std.specs.Prelude.{◌≡◌, ◌+◌, ◌-◌, ◌^◌, ◌≤◌, ◌<◌, length, get_or, suc, Ok, Some};
+ghost use Rattle.model.specs.Numbers.{answer_number};
+ghost use Rattle.model.specs.Attributes.{type_of};
+ghost use Rattle.model.specs.Frames.{type_octet, known, first_length, runs_past, four_length, overpacked, header_in, walk, three_packed};
+ghost use Rattle.msrpdu.specs.Reader.{type_read, head_of, strange_read, vector_read, typed_read, first_part, first_meant, message_meant, message_read, number_of, answer_of, vectors_in, event_in, four_in, stream_id_in, domain_in};
 
-use model::{pdu, refusal};
+use model::attribute::Attribute;
+use model::event::Event;
+use model::pdu;
+use model::refusal::Refusal;
 
-// What the AttributeType octet decides: a known type with its octets of FirstValue, a list to skip unread, or a refusal with its
-// number.
-#[derive(Clone, Copy)]
-enum TypeRead {
-    Known(usize),
-    Skipped,
-    Refused(u8),
-}
-
-fn type_read(version: u8, kind: u8) -> TypeRead
-    ensures { result ≡ type_read (type_octet version kind) }
+// What the AttributeType octet decides: a known type, or none of one whose list is skipped unread.
+#[tactic(auto, using(crate::proofs::Laws::types_read))]
+fn type_read(version: u8, octet: u8) -> Result<Option<Attribute>, Refusal>
+    ensures { result ≡ type_read (type_octet version octet) }
 {
-    match kind {
-        0 => TypeRead::Refused(refusal::ATTRIBUTE_TYPE),
-        1 => TypeRead::Known(pdu::ADVERTISE),
-        2 => TypeRead::Known(pdu::FAILED),
-        3 => TypeRead::Known(pdu::LISTENER),
-        4 => TypeRead::Known(pdu::DOMAIN),
-        5..=255 => {
-            if version == 0 {
-                return TypeRead::Refused(refusal::ATTRIBUTE_TYPE);
-            }
-            TypeRead::Skipped
-        }
+    match Attribute::from_octet(octet) {
+        Some(attribute) => Ok(Some(attribute)),
+        None if octet == 0 || version == 0 => Err(Refusal::AttributeType),
+        None => Ok(None),
     }
 }
 
@@ -38,19 +28,12 @@ fn type_read(version: u8, kind: u8) -> TypeRead
 fn any_overpacked(events: &[u8]) -> bool
     ensures { result ≡ overpacked events.now }
 {
-    let mut i: usize = 0;
-    while i < events.len() {
-        if 215 < events[i] {
-            return true;
-        }
-        i += 1;
-    }
-    false
+    events.iter().any(|octet| 215 < *octet)
 }
 
 // A vector that was read: LeaveAll, the number of its values, the places of FirstValue and of its event octets, and the place
 // after it.
-#[derive(Clone, Copy)]
+#[derive(Clone, Copy, PartialEq, Eq, Debug)]
 pub struct VectorHead {
     pub leaves: bool,
     pub values: usize,
@@ -61,77 +44,47 @@ pub struct VectorHead {
 }
 
 // What stands at a place of an AttributeList. A vector that is passed over has its place after.
-#[derive(Clone, Copy)]
+#[derive(Clone, Copy, PartialEq, Eq, Debug)]
 pub enum VectorRead {
-    Refused(u8),
     EndMark,
     Vector(VectorHead),
     PassedOver(usize),
 }
 
-// A Message whose list is to be read: its AttributeType octet, the place of its list and the place after it.
-#[derive(Clone, Copy)]
+// A Message whose list is to be read: its AttributeType, the place of its list and the place after it.
+#[derive(Clone, Copy, PartialEq, Eq, Debug)]
 pub struct MessageHead {
-    pub kind: u8,
+    pub attribute: Attribute,
     pub list: usize,
     pub next: usize,
 }
 
 // What stands at a place of a PDU.
-#[derive(Clone, Copy)]
+#[derive(Clone, Copy, PartialEq, Eq, Debug)]
 pub enum MessageRead {
-    Refused(u8),
     End,
     Skipped(usize),
     List(MessageHead),
 }
 
-// A field of a value.
-#[derive(Clone, Copy)]
-pub enum ValueRead {
-    Value(u64),
-    Past,
-}
-
-// The slot of a Domain value among those that a port holds, or that it has none.
-#[derive(Clone, Copy)]
-pub enum DomainRead {
-    Slot(usize),
-    Dropped,
-}
-
-#[derive(Clone, Copy)]
-pub enum Event {
-    New,
-    JoinIn,
-    In,
-    JoinMt,
-    Mt,
-    Lv,
-    Missing,
-}
-
 // Whether value n of a type leaves one of the fields that grow with it (01, number 7).
-fn runs_past(kind: u8, first: &[u8], n: usize) -> bool
-    requires { (n ≤ 8191) × (type_read (type_octet 0 kind) ≡ TypeRead.Known (length first.now)) }
-    ensures { result ≡ past_field (type_octet 0 kind) first.now n }
+#[tactic(auto, unfolding(model::specs::Frames::runs_past, model::specs::Frames::first_length))]
+fn runs_past(attribute: Attribute, first: &[u8], n: usize) -> bool
+    requires { (n ≤ 8191) × (length first.now ≡ first_length (type_of attribute)) }
+    ensures { result ≡ runs_past (type_of attribute) first.now n }
 {
-    if kind == 4 {
-        if 255 < (first[0] as usize) + n {
-            return true;
+    match attribute {
+        Attribute::Domain => 255 < (first[0] as usize) + n || 255 < (first[1] as usize) + n,
+        Attribute::Listener => 65535 < (octets::get(first, 6, 2) as usize) + n,
+        Attribute::Advertise | Attribute::Failed => {
+            65535 < (octets::get(first, 6, 2) as usize) + n
+                || 281474976710655 < octets::get(first, 8, 6) + (n as u64)
         }
-        return 255 < (first[1] as usize) + n;
     }
-    if 65535 < (octets::get(first, 6, 2) as usize) + n {
-        return true;
-    }
-    if kind == 3 {
-        return false;
-    }
-    281474976710655 < octets::get(first, 8, 6) + (n as u64)
 }
 
 // The FourPackedEvents octets of so many values, where a vector has them.
+#[tactic(auto, unfolding(model::specs::Frames::four_length))]
 fn four_octets(four: bool, values: usize) -> usize
     requires { values ≤ 8191 }
     ensures { (result ≡ four_length four values) × (result ≤ values) }
@@ -143,6 +96,7 @@ fn four_octets(four: bool, values: usize) -> usize
 }
 
 // The head of a vector at a place, of header h, by the octets of FirstValue and whether FourPackedEvents follow.
+#[tactic(auto, unfolding(crate::specs::Reader::head_of, model::specs::Frames::vector_end, model::specs::Frames::three_length))]
 fn head_of(at: usize, first: usize, four: bool, h: usize) -> VectorHead
     requires { at + first + 65536 < 2 ^ 64 }
     ensures { result ≡ head_of first four at h }
@@ -162,277 +116,295 @@ fn head_of(at: usize, first: usize, four: bool, h: usize) -> VectorHead
 }
 
 // A vector that fits and has events that are not known here: refused at version 0, and passed over at a higher one.
-fn strange_vector(version: u8, head: VectorHead) -> VectorRead
+#[tactic(auto, unfolding(crate::specs::Reader::strange_read))]
+fn strange_vector(version: u8, head: VectorHead) -> Result<VectorRead, Refusal>
     ensures { result ≡ strange_read version head }
 {
     if version == 0 {
-        return VectorRead::Refused(refusal::EVENT);
+        return Err(Refusal::Event);
     }
-    VectorRead::PassedOver(head.next)
+    Ok(VectorRead::PassedOver(head.next))
 }
 
 // The vector at a place of an AttributeList of any MRP application, by the octets of FirstValue and whether FourPackedEvents
 // follow: its checks, in 01's order, but for that of its values.
-pub fn vector(list: &[u8], at: usize, version: u8, first: usize, four: bool) -> VectorRead
+pub fn vector(
+    list: &[u8],
+    at: usize,
+    version: u8,
+    first: usize,
+    four: bool,
+) -> Result<VectorRead, Refusal>
     ensures { result ≡ vector_read version first four list.now at }
 {
     let n = list.len();
     if n < 2 {
-        return VectorRead::Refused(refusal::PAST_END);
+        return Err(Refusal::PastEnd);
     }
     if n - 2 < at {
-        return VectorRead::Refused(refusal::PAST_END);
+        return Err(Refusal::PastEnd);
     }
     let h = octets::get(list, at, 2) as usize;
     if h == 0 {
-        return VectorRead::EndMark;
+        return Ok(VectorRead::EndMark);
     }
     let strange = 1 < h / 8192;
     if (version == 0) & strange {
-        return VectorRead::Refused(refusal::EVENT);
+        return Err(Refusal::Event);
     }
     if n - 2 - at < first {
-        return VectorRead::Refused(refusal::PAST_END);
+        return Err(Refusal::PastEnd);
     }
     let head = head_of(at, first, four, h);
     if n < head.next {
-        return VectorRead::Refused(refusal::PAST_END);
+        return Err(Refusal::PastEnd);
     }
-    let three = head.three;
-    let end = head.four;
-    let over = any_overpacked(&list[three..end]);
+    let over = any_overpacked(&list[head.three..head.four]);
     if strange | over {
         return strange_vector(version, head);
     }
-    VectorRead::Vector(head)
+    Ok(VectorRead::Vector(head))
+}
+
+// FirstValue between the places of a vector's head, as that part of the list; empty for a head of another list that is too short for it.
+#[tactic(auto, unfolding(crate::specs::Reader::first_part, octets::specs::Parts::part))]
+pub fn first_value_at(list: &[u8], head: VectorHead) -> &[u8]
+    ensures { result.now ≡ first_part list.now head }
+{
+    if list.len() < head.three {
+        return &list[0..0];
+    }
+    if head.three < head.first {
+        return &list[0..0];
+    }
+    &list[head.first..head.three]
 }
 
 // FirstValue of what the vector reader gave, as that part of the list: empty where it refused, met the EndMark or passed over.
-pub fn first_value(list: &[u8], read: VectorRead) -> &[u8]
-    ensures { result.now ≡ first_part list.now read }
+#[tactic(auto, unfolding(crate::specs::Reader::first_meant))]
+pub fn first_value(list: &[u8], read: Result<VectorRead, Refusal>) -> &[u8]
+    ensures { result.now ≡ first_meant list.now read }
 {
-    let VectorRead::Vector(head) = read else {
+    let Ok(VectorRead::Vector(head)) = read else {
         return &list[0..0];
     };
-    let start = head.first;
-    let end = head.three;
-    if list.len() < end {
-        return &list[0..0];
-    }
-    if end < start {
-        return &list[0..0];
-    }
-    &list[start..end]
+    first_value_at(list, head)
 }
 
 // The vector at a place of an AttributeList of a type, in a PDU of a version: the EndMark is the list's last two octets, and the
 // values are checked last, of a vector that is not passed over.
-pub fn typed_vector(list: &[u8], at: usize, version: u8, kind: u8) -> VectorRead
-    ensures { result ≡ typed_read version (type_octet 0 kind) list.now at }
+pub fn attribute_vector(
+    list: &[u8],
+    at: usize,
+    version: u8,
+    attribute: Attribute,
+) -> Result<VectorRead, Refusal>
+    ensures { result ≡ typed_read version (known (type_of attribute)) list.now at }
 {
-    let TypeRead::Known(octets) = type_read(0, kind) else {
-        return VectorRead::Refused(refusal::ATTRIBUTE_TYPE);
-    };
-    let v = vector(list, at, version, octets, kind == 3);
-    match v {
-        VectorRead::Refused(_) => v,
+    let first = attribute.first_length();
+    let read = vector(list, at, version, first, attribute.has_four_packed())?;
+    match read {
         VectorRead::EndMark => {
-            if list.len() - at == 2 {
-                return v;
+            if list.len() - at != 2 {
+                return Err(Refusal::PastEnd);
             }
-            VectorRead::Refused(refusal::PAST_END)
         }
-        VectorRead::Vector(w) => {
-            let values = w.values;
-            if 0 < values {
-                let first = first_value(list, v);
-                if runs_past(kind, first, values - 1) {
-                    return VectorRead::Refused(refusal::VALUE);
+        VectorRead::Vector(head) => {
+            if 0 < head.values {
+                let first = first_value_at(list, head);
+                if runs_past(attribute, first, head.values - 1) {
+                    return Err(Refusal::Value);
                 }
             }
-            v
         }
-        VectorRead::PassedOver(_) => v,
+        VectorRead::PassedOver(_) => {}
+    }
+    Ok(read)
+}
+
+// The same by an AttributeType octet; that of no type known here is refused.
+pub fn typed_vector(list: &[u8], at: usize, version: u8, kind: u8) -> Result<VectorRead, Refusal>
+    ensures { result ≡ typed_read version (type_octet 0 kind) list.now at }
+{
+    match Attribute::from_octet(kind) {
+        Some(attribute) => attribute_vector(list, at, version, attribute),
+        None => Err(Refusal::AttributeType),
     }
 }
 
 // A Message whose four header octets are there: type, length and list.
-fn message_header(pdu: &[u8], version: u8, at: usize) -> MessageRead
+fn message_header(pdu: &[u8], version: u8, at: usize) -> Result<MessageRead, Refusal>
     requires { at + 4 ≤ length pdu.now }
     ensures { result ≡ message_meant pdu.now at (header_in (type_octet version (get_or pdu.now at 0)) pdu.now at) }
 {
     let left = pdu.len() - at - 4;
-    let kind = pdu[at];
     let list = octets::get(pdu, at + 2, 2) as usize;
-    let t = type_read(version, kind);
-    match t {
-        TypeRead::Refused(number) => MessageRead::Refused(number),
-        TypeRead::Skipped => {
+    match type_read(version, pdu[at])? {
+        None => {
             if left < list {
-                return MessageRead::Refused(refusal::PAST_END);
+                return Err(Refusal::PastEnd);
             }
-            MessageRead::Skipped(at + 4 + list)
+            Ok(MessageRead::Skipped(at + 4 + list))
         }
-        TypeRead::Known(first) => {
-            if (pdu[at + 1] as usize) != first {
-                return MessageRead::Refused(refusal::ATTRIBUTE_LENGTH);
+        Some(attribute) => {
+            if (pdu[at + 1] as usize) != attribute.first_length() {
+                return Err(Refusal::AttributeLength);
             }
             if left < list {
-                return MessageRead::Refused(refusal::PAST_END);
+                return Err(Refusal::PastEnd);
             }
-            MessageRead::List(MessageHead {
-                kind: kind,
+            Ok(MessageRead::List(MessageHead {
+                attribute,
                 list: at + 4,
                 next: at + 4 + list,
-            })
+            }))
         }
     }
 }
 
 // The Message at a place of a PDU of a version: its checks, in 01's order.
-pub fn message(pdu: &[u8], version: u8, at: usize) -> MessageRead
+#[tactic(auto, unfolding(crate::specs::Reader::message_read, crate::specs::Reader::message_meant, model::specs::Frames::message_in, model::specs::Frames::end_mark, model::specs::Numbers::refusal_of))]
+pub fn message(pdu: &[u8], version: u8, at: usize) -> Result<MessageRead, Refusal>
     ensures { result ≡ message_read version pdu.now at }
 {
     let n = pdu.len();
     if at == n {
-        return MessageRead::End;
+        return Ok(MessageRead::End);
     }
     if n < at {
-        return MessageRead::Refused(refusal::PAST_END);
+        return Err(Refusal::PastEnd);
     }
     if 2 <= n - at {
         if octets::get(pdu, at, 2) == 0 {
-            return MessageRead::End;
+            return Ok(MessageRead::End);
         }
     }
     if n - at < 4 {
-        return MessageRead::Refused(refusal::PAST_END);
+        return Err(Refusal::PastEnd);
     }
     message_header(pdu, version, at)
 }
 
-// The whole checked walk: 0, or the number of the first fault met.
-pub fn check(pdu: &[u8]) -> u8
-    ensures { result ≡ number_of (walk pdu.now) }
+// The checked walk over an AttributeList of a type, vector by vector to its EndMark.
+fn check_list(list: &[u8], version: u8, attribute: Attribute) -> Result<(), Refusal>
+    ensures { result ≡ answer_of (vectors_in version (known (type_of attribute)) (suc (length list.now)) list.now 0) }
+{
+    let mut at: usize = 0;
+    loop {
+        match attribute_vector(list, at, version, attribute)? {
+            VectorRead::EndMark => return Ok(()),
+            VectorRead::Vector(head) => at = head.next,
+            VectorRead::PassedOver(next) => at = next,
+        }
+    }
+}
+
+// The whole checked walk: refused by the first fault met.
+pub fn check(pdu: &[u8]) -> Result<(), Refusal>
+    ensures { answer_number result ≡ number_of (walk pdu.now) }
 {
     let n = pdu.len();
     if n == 0 {
-        return refusal::PDU_LENGTH;
+        return Err(Refusal::PduLength);
     }
     if pdu::LONGEST < n {
-        return refusal::PDU_LENGTH;
+        return Err(Refusal::PduLength);
     }
     let version = pdu[0];
     let mut at: usize = 1;
-    'messages: loop {
-        let m = message(pdu, version, at);
-        match m {
-            MessageRead::Refused(number) => break 'messages number,
-            MessageRead::End => break 'messages refusal::ACCEPTED,
+    loop {
+        match message(pdu, version, at)? {
+            MessageRead::End => return Ok(()),
             MessageRead::Skipped(next) => at = next,
             MessageRead::List(head) => {
-                let kind = head.kind;
-                let start = head.list;
-                let end = head.next;
-                let mut reached: usize = 0;
-                loop {
-                    let v = typed_vector(&pdu[start..end], reached, version, kind);
-                    match v {
-                        VectorRead::Refused(number) => break 'messages number,
-                        VectorRead::EndMark => break,
-                        VectorRead::Vector(w) => reached = w.next,
-                        VectorRead::PassedOver(next) => reached = next,
-                    }
-                }
-                at = end;
+                check_list(&pdu[head.list..head.next], version, head.attribute)?;
+                at = head.next;
             }
         }
     }
 }
 
 // The event at place k, 0 to 2, of a ThreePackedEvents octet.
+#[tactic(auto, unfolding(model::specs::Frames::three_packed))]
 fn three_packed(o: u8, k: usize) -> u8
     ensures { result ≡ three_packed o k }
 {
-    if k == 0 {
-        return o / 36;
+    match k {
+        0 => o / 36,
+        1 => o / 6 % 6,
+        _ => o % 6,
     }
-    if k == 1 {
-        return o / 6 % 6;
-    }
-    o % 6
 }
 
-// The event of value n in a vector's ThreePackedEvents octets.
-pub fn event_of(events: &[u8], n: usize) -> Event
+// The event of value n in a vector's ThreePackedEvents octets; none past them.
+#[tactic(auto, unfolding(crate::specs::Reader::event_in, crate::specs::Reader::event_meant, model::specs::Frames::event))]
+pub fn event_of(events: &[u8], n: usize) -> Option<Event>
     ensures { result ≡ event_in events.now n }
 {
-    let i = n / 3;
-    if events.len() <= i {
-        return Event::Missing;
-    }
-    let e = three_packed(events[i], n % 3);
-    match e {
+    let octet = *events.get(n / 3)?;
+    Some(match three_packed(octet, n % 3) {
         0 => Event::New,
         1 => Event::JoinIn,
         2 => Event::In,
         3 => Event::JoinMt,
         4 => Event::Mt,
         5..=255 => Event::Lv,
-    }
+    })
 }
 
 // The four-packed event of value n in a vector's FourPackedEvents octets; 0, Ignore, past them.
+#[tactic(auto, unfolding(crate::specs::Reader::four_in, model::specs::Frames::four_packed))]
 pub fn four_of(fours: &[u8], n: usize) -> u8
     ensures { result ≡ four_in fours.now n }
 {
-    let i = n / 4;
-    if fours.len() <= i {
+    let Some(octet) = fours.get(n / 4) else {
         return 0;
-    }
-    let o = fours[i];
+    };
     match n % 4 {
-        0 => o / 64,
-        1 => o / 16 % 4,
-        2 => o / 4 % 4,
-        _ => o % 4,
+        0 => *octet / 64,
+        1 => *octet / 16 % 4,
+        2 => *octet / 4 % 4,
+        _ => *octet % 4,
     }
 }
 
-// StreamID of value n of a FirstValue.
-pub fn stream_id(first: &[u8], n: usize) -> ValueRead
+// StreamID of value n of a FirstValue; none where it runs past its field.
+#[tactic(auto, unfolding(crate::specs::Reader::stream_id_in, crate::specs::Reader::value_in))]
+pub fn stream_id(first: &[u8], n: usize) -> Option<u64>
     ensures { result ≡ stream_id_in first.now n }
 {
     if first.len() < 8 {
-        return ValueRead::Past;
+        return None;
     }
     let unique = octets::get(first, 6, 2) as usize;
     if 65535 - unique < n {
-        return ValueRead::Past;
+        return None;
     }
-    ValueRead::Value(octets::get(first, 0, 8) + (n as u64))
+    Some(octets::get(first, 0, 8) + (n as u64))
 }
 
-// The slot of value n of a Domain FirstValue: class IDs 5 and 6, and priorities 0 to 7 of each.
-pub fn domain_slot(first: &[u8], n: usize) -> DomainRead
+// The slot of value n of a Domain FirstValue among those that a port holds, class IDs 5 and 6 and priorities 0 to 7 of each; other
+// values have none.
+#[tactic(auto, unfolding(crate::specs::Reader::domain_in, model::specs::Frames::has_slot, model::specs::State::slot_of))]
+pub fn domain_slot(first: &[u8], n: usize) -> Option<usize>
     ensures { result ≡ domain_in first.now n }
 {
     if first.len() < pdu::DOMAIN {
-        return DomainRead::Dropped;
+        return None;
     }
     if 6 < n {
-        return DomainRead::Dropped;
+        return None;
     }
     let id = (octets::get(first, 0, 1) as usize) + n;
     let priority = (octets::get(first, 1, 1) as usize) + n;
     if id < 5 {
-        return DomainRead::Dropped;
+        return None;
     }
     if 6 < id {
-        return DomainRead::Dropped;
+        return None;
     }
     if 7 < priority {
-        return DomainRead::Dropped;
+        return None;
     }
-    DomainRead::Slot((id - 5) * 8 + priority)
+    Some((id - 5) * 8 + priority)
 }

@@ -4,5 +4,4 @@ pub mod Pick
 pub mod Frame
 pub mod Fields
 pub mod Patches
-pub mod Copies
 pub mod Loops

@@ -4,16 +4,30 @@ use Prim.Native.Nat.{ℕ, ◌+◌, ◌-◌, ◌≤◌}
 use native.Mathlib.Omega.{arith}
 use mathlib.Core.Path.{◌≡◌, sym, ap, ◌∙◌}
 use mathlib.Core.List.{List, ◌++◌, append_assoc}
-use lib.ListN.{length, take, drop, length-append, length-drop, take-append-drop}
+use lib.ListN.{length, replicate, take, drop, length-append, length-drop, take-append-drop}
 use lib.Seq.{length-take-le, take_at, drop_at, take-append-le, drop-append-le, drop-drop}
-use Rattle.octets.specs.Parts.{part, patch}
-use Rattle.octets.proofs.Parts.{lent_length, length_part}
+use Rattle.octets.specs.Parts.{part, patch, zeros}
+use Rattle.octets.proofs.Parts.{lent_length, length_part, patch-is}
 use Rattle.octets.proofs.Fields.{patch-behind}
 
 -- what a call leaves that was lent `&mut s[a..a + n]` and left y there
 pub lent-patch : (a n : ℕ) (y s : List ℕ) → take a s ++ (y ++ drop (a + n - a) (drop a s)) ≡ patch a n y s
 unfolding patch
 lent-patch a n y s = rw (lent_length a n)
+
+-- what a call leaves that was lent it, and filled it
+pub lent_filled : (a n : ℕ) (y s : List ℕ) → a + n ≤ length s → y ≡ replicate (length (take (a + n - a) (drop a s))) 0
+    → take a s ++ (y ++ drop (a + n - a) (drop a s)) ≡ patch a n (zeros n) s
+lent_filled a n y s h e =
+    let l : length (take (a + n - a) (drop a s)) ≡ n = rw (lent_length a n) (length-take-le n (drop a s) (omega (arith, length-drop a s))) in
+    lent-patch a n y s ∙ rw (e, l)
+
+-- what `copy_within(from..end, to)` leaves
+pub copied_within : (from end to n : ℕ) (s : List ℕ) → end - from ≡ n
+    → take to s ++ take (end - from) (drop from s) ++ drop (to + (end - from)) s ≡ patch to n (part from n s) s
+unfolding part
+copied_within from end to n s e =
+    rw e (append_assoc (take to s) (take n (drop from s)) (drop (to + n) s) ∙ sym (patch-is to n (take n (drop from s)) s))
 
 -- y between x and z, replaced
 pub patch-between : (x y z w : List ℕ) (a n : ℕ) → length x ≡ a → length y ≡ n → patch a n w (x ++ (y ++ z)) ≡ x ++ (w ++ z)

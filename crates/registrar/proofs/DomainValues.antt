@@ -1,10 +1,9 @@
 -- What a Domain value asks for, and that it is done on its slot.
 use Prim.Native.Nat.{ℕ, ◌+◌, ◌/◌, ◌%◌, ◌≤◌, ◌<◌, ◌^◌}
-use mathlib.Core.Path.{◌≡◌, refl, sym, ◌∙◌, ap₂, subst}
+use mathlib.Core.Path.{◌≡◌, refl, sym, ◌∙◌, ap, ap₂, subst}
 use mathlib.Core.List.{List, [], ◌∷◌, ◌++◌}
 use mathlib.Core.Bool.{Bool, true, false, cond}
 use native.Mathlib.Omega.{arith}
-use native.Mathlib.Decide.{ℕ_discrete}
 use lib.ListN.{length, get_or}
 use lib.Dec.{ltb}
 use borrow.Author.Tests.{le-ltb}
@@ -14,29 +13,27 @@ use Rattle.octets.proofs.Fields.{be_at-fits}
 use Rattle.model.specs.Layout.{slots}
 use Rattle.model.specs.FrameLayout.{domain_length}
 use Rattle.model.specs.State.{stays, domain, slot_of}
-use Rattle.model.specs.Registrations.{of_domain, leave_domain, join_domain, hear_domain, quit_domain, does_domain}
-use Rattle.model.specs.Frames.{first_widths, first_length, has_slot, slot_act, slot_heard, domain_act, value_acts, event_of, asking, three_packed}
+use Rattle.model.specs.Registrations.{Kind, of_domain, leave_domain, join_domain, hear_domain, quit_domain, does_domain}
+use Rattle.model.specs.Frames.{Attribute, registers, domain_type, has_four, first_widths, first_length, has_slot, slot_act, slot_heard, domain_act, value_acts, event_of, asking, three_packed}
 use Rattle.model.specs.Table.{encode, decode}
 use Rattle.model.specs.Laid.{Laid}
 use Rattle.model.proofs.FoundVectors.{slot-within}
 use Rattle.model.specs.Frames as frames
 use Rattle.msrpdu.specs.Reader.{event_meant, four_in, domain_in}
-use Rattle.msrpdu.specs.declared.Event.{Event}
-use Rattle.msrpdu.specs.declared.DomainRead.{DomainRead}
-use Rattle.msrpdu.specs.declared.DomainRead.TheVariants.{Slot, Dropped}
+use Rattle.std.specs.Prelude.{Option, Some, None}
+use Rattle.model.specs.Events.{asked_by}
+use Rattle.model.specs.declared.event.Asked.{Asked}
+use Rattle.model.specs.declared.event.Asked.TheVariants.{Join, Leave}
+use Rattle.model.specs.declared.event.Event.{Event}
+use Rattle.msrpdu.proofs.Laws.{event-there}
 use Rattle.table.specs.Updates.{with_slot}
-use Rattle.cells.specs.Acts.{kind_at}
 use Rattle.hearing.specs.Hears.{meant}
 use Rattle.hearing.specs.declared.Heard.{Heard}
-use Rattle.registrar.specs.declared.Asked.{Asked}
-use Rattle.registrar.specs.declared.Asked.TheVariants.{Nothing, Join, Leave}
-use Rattle.registrar.specs.declared.Overheard.{Overheard}
-use Rattle.registrar.specs.declared.Overheard.TheVariants.{Unmoved, Hears}
-use Rattle.registrar.specs.Acts.{HasValue, attribute_at, vector_of, event_for, asked_by, slot_asked, register_acts, overheard_by, slot_hears, acts_heard, hear_acts}
+use Rattle.registrar.specs.Acts.{HasValue, vector_of, event_for, slot_asked, register_acts, overheard_by, slot_hears, acts_heard, hear_acts, event_acts}
 use Rattle.registrar.specs.Walked.{Walked}
 use Rattle.registrar.proofs.Walks.{walked_none, domain-done, domain-room}
 use Rattle.registrar.proofs.Touched.{heard-room}
-use Rattle.registrar.proofs.ValueActs.{event-there, heard-acts, value-acts, stream-hears, value-id-fits}
+use Rattle.registrar.proofs.ValueActs.{heard-acts, value-acts, stream-hears, value-id-fits}
 
 -- What the reader gives of it: its slot, or that it is dropped.
 
@@ -51,35 +48,35 @@ module _ (first : List ℕ) (n : ℕ) where
     has : has_slot class priority ≡ true
     is : slot_of class priority ≡ i
 
-  slotted : (i : ℕ) → domain_in first n ≡ Slot i → Slotted i
+  slotted : (i : ℕ) → domain_in first n ≡ Some i → Slotted i
   unfolding domain_in
   slotted i e = go (ltb (length first) domain_length) (has_slot class priority) refl e
     where
-      go : (s t : Bool) → has_slot class priority ≡ t → cond s Dropped (cond t (Slot (slot_of class priority)) Dropped) ≡ Slot i → Slotted i
+      go : (s t : Bool) → has_slot class priority ≡ t → cond s None (cond t (Some (slot_of class priority)) None) ≡ Some i → Slotted i
       go true t h e = let z : ◌≡◌ {A = ℕ} 0 1 = cc in absurd (omega arith)
       go false true h e = record { has = h; is = cc }
       go false false h e = let z : ◌≡◌ {A = ℕ} 0 1 = cc in absurd (omega arith)
 
-  pub slot-below : (i : ℕ) → domain_in first n ≡ Slot i → i < slots
+  pub slot-below : (i : ℕ) → domain_in first n ≡ Some i → i < slots
   slot-below i e = let s = slotted i e in subst (λ (j : ℕ). j < slots) s.is (slot-within class priority s.has)
 
-  none-slotted : HasValue 4 first n → domain_in first n ≡ Dropped → has_slot class priority ≡ false
-  unfolding domain_in attribute_at first_length
+  none-slotted : HasValue domain_type first n → domain_in first n ≡ None → has_slot class priority ≡ false
+  unfolding domain_in first_length
   none-slotted v e = go (has_slot class priority) refl (rw (le-ltb (length first) domain_length (omega (arith, v.octets))) at e)
     where
-      go : (t : Bool) → has_slot class priority ≡ t → cond t (Slot (slot_of class priority)) Dropped ≡ Dropped → has_slot class priority ≡ false
+      go : (t : Bool) → has_slot class priority ≡ t → cond t (Some (slot_of class priority)) None ≡ None → has_slot class priority ≡ false
       go true h e = let z : ◌≡◌ {A = ℕ} 0 1 = cc in absurd (omega arith)
       go false h e = h
 
 -- its VLAN is the last field
-pub vlan-within : (first : List ℕ) (n : ℕ) → HasValue 4 first n → 2 + 2 ≤ length first
-unfolding attribute_at first_length
+pub vlan-within : (first : List ℕ) (n : ℕ) → HasValue domain_type first n → 2 + 2 ≤ length first
+unfolding first_length
 vlan-within first n v = omega (arith, v.octets)
 
 -- Its acts.
 
-slot-asks : (i vlan : ℕ) (e : frames.Event) → slot_act i vlan (asking e) ≡ slot_asked (Slot i) vlan (asked_by (event_meant e))
-unfolding slot_act asking slot_asked asked_by event_meant
+slot-asks : (i vlan : ℕ) (e : frames.Event) → slot_act i vlan (asking e) ≡ slot_asked (Some i) vlan (asked_by (event_meant e))
+unfolding slot_act asking slot_asked event_meant
 slot-asks i vlan frames.new = refl
 slot-asks i vlan frames.join_in = refl
 slot-asks i vlan frames.is_in = refl
@@ -88,62 +85,72 @@ slot-asks i vlan frames.mt = refl
 slot-asks i vlan frames.lv = refl
 
 module _ (first : List ℕ) (n : ℕ) where
-  pub register-slot : (e : Event) (four i : ℕ) → domain_in first n ≡ Slot i → register_acts 4 first e four n ≡ slot_asked (Slot i) (be_at 2 first 2) (asked_by e)
+  pub register-slot : (e : Event) (four i : ℕ) → domain_in first n ≡ Some i → register_acts domain_type first e four n ≡ slot_asked (Some i) (be_at 2 first 2) (asked_by e)
   unfolding register_acts
   register-slot e four i d = rw d
 
-  pub register-dropped : (e : Event) (four : ℕ) → domain_in first n ≡ Dropped → register_acts 4 first e four n ≡ []
+  pub slot-asked : (e : Event) (four i : ℕ) (a : Option Asked) → domain_in first n ≡ Some i → asked_by e ≡ a → register_acts domain_type first e four n ≡ slot_asked (Some i) (be_at 2 first 2) a
+  slot-asked e four i a d q = register-slot e four i d ∙ ap (slot_asked (Some i) (be_at 2 first 2)) q
+
+  pub register-dropped : (e : Event) (four : ℕ) → domain_in first n ≡ None → register_acts domain_type first e four n ≡ []
   unfolding register_acts slot_asked
   register-dropped e four d = rw d
 
-  pub slot-hears : (i : ℕ) → domain_in first n ≡ Slot i → (h : Heard) → acts_heard 4 first n (Hears h) ≡ of_domain (hear_domain i (meant h)) ∷ []
+  pub slot-hears : (i : ℕ) → domain_in first n ≡ Some i → (h : Heard) → acts_heard domain_type first n (Some h) ≡ of_domain (hear_domain i (meant h)) ∷ []
   unfolding acts_heard slot_hears
   slot-hears i d h = rw d
 
-  pub dropped-hears : domain_in first n ≡ Dropped → (o : Overheard) → acts_heard 4 first n o ≡ []
+  pub dropped-hears : domain_in first n ≡ None → (o : Option Heard) → acts_heard domain_type first n o ≡ []
   unfolding acts_heard slot_hears
-  dropped-hears d Unmoved = refl
-  dropped-hears d (Hears h) = rw d
+  dropped-hears d None = refl
+  dropped-hears d (Some h) = rw d
 
 module _ (leaves : Bool) (values : ℕ) (first three four : List ℕ) (n : ℕ) where
   abbrev read : frames.Event
   read = frames.event (three_packed (get_or three (n / 3) 0) (n % 3))
 
-  by-slot : value_acts (vector_of 4 leaves values first three four) n
+  by-slot : value_acts (vector_of domain_type leaves values first three four) n
       ≡ cond (has_slot (class first n) (priority first n))
       (slot_act (slot_of (class first n) (priority first n)) (be_at 2 first 2) (asking read) ++ slot_heard (slot_of (class first n) (priority first n)) read)
       []
-  unfolding value_acts vector_of attribute_at domain_act first_widths fields event_of
+  unfolding value_acts vector_of domain_act first_widths fields event_of
   by-slot = refl
 
-  pub domain-acts : HasValue 4 first n → n / 3 < length three →
-      value_acts (vector_of 4 leaves values first three four) n
-      ≡ register_acts 4 first (event_for 4 three four n) (four_in four n) n ++ hear_acts 4 first (event_for 4 three four n) n
-  unfolding event_for hear_acts
+  pub domain-acts : HasValue domain_type first n → n / 3 < length three →
+      value_acts (vector_of domain_type leaves values first three four) n
+      ≡ event_acts domain_type first (event_for domain_type three four n) (four_in four n) n
+  unfolding event_for has_four event_acts hear_acts
   domain-acts v there = rw (event-there three n there) (by-slot ∙ go (domain_in first n) refl)
     where
-      go : (r : DomainRead) → domain_in first n ≡ r → cond (has_slot (class first n) (priority first n))
+      go : (r : Option ℕ) → domain_in first n ≡ r → cond (has_slot (class first n) (priority first n))
           (slot_act (slot_of (class first n) (priority first n)) (be_at 2 first 2) (asking read) ++ slot_heard (slot_of (class first n) (priority first n)) read)
           []
-          ≡ register_acts 4 first (event_meant read) (four_in four n) n ++ acts_heard 4 first n (overheard_by (event_meant read))
-      go (Slot i) d =
+          ≡ register_acts domain_type first (event_meant read) (four_in four n) n ++ acts_heard domain_type first n (overheard_by (event_meant read))
+      go (Some i) d =
           let s = slotted first n i d in
           rw (s.has, s.is)
           (ap₂ ◌++◌ (slot-asks i (be_at 2 first 2) read ∙ sym (register-slot first n (event_meant read) (four_in four n) i d))
-          (unfold slot_heard in heard-acts (λ h. of_domain (hear_domain i h)) (acts_heard 4 first n) (unfold acts_heard in refl) (slot-hears first n i d) read))
-      go Dropped d =
+          (unfold slot_heard in heard-acts (λ h. of_domain (hear_domain i h)) (acts_heard domain_type first n) (unfold acts_heard in refl) (slot-hears first n i d) read))
+      go None d =
           rw (none-slotted first n v d, register-dropped first n (event_meant read) (four_in four n) d, dropped-hears first n d (overheard_by (event_meant read)))
 
 -- those of any value
-pub both-acts : (leaves : Bool) (values : ℕ) (first three four : List ℕ) (n : ℕ) → n / 3 < length three → (kind : ℕ) → HasValue kind first n →
-    value_acts (vector_of kind leaves values first three four) n
-    ≡ register_acts kind first (event_for kind three four n) (four_in four n) n ++ hear_acts kind first (event_for kind three four n) n
-both-acts leaves values first three four n there kind v = go (ℕ_discrete kind 4)
-  where
-    go : Dec (kind ≡ 4) → value_acts (vector_of kind leaves values first three four) n
-        ≡ register_acts kind first (event_for kind three four n) (four_in four n) n ++ hear_acts kind first (event_for kind three four n) n
-    go (yes q) = rw q (domain-acts leaves values first three four n (rw q at v) there)
-    go (no q) = value-acts leaves values first three four n there kind v.low (omega (arith, v.high))
+pub both-acts : (leaves : Bool) (values : ℕ) (first three four : List ℕ) (n : ℕ) → n / 3 < length three → (k : Attribute) → HasValue k first n →
+    value_acts (vector_of k leaves values first three four) n
+    ≡ event_acts k first (event_for k three four n) (four_in four n) n
+both-acts leaves values first three four n there (registers k) v = value-acts leaves values first three four n there k
+both-acts leaves values first three four n there domain_type v = domain-acts leaves values first three four n v there
+
+module _ (first three four : List ℕ) (n : ℕ) (there : n / 3 < length three) (k : Attribute) (v : HasValue k first n) where
+  pub acts-without : event_for k three four n ≡ None → value_acts (vector_of k false 0 first three four) n ≡ []
+  unfolding event_acts
+  acts-without q = both-acts false 0 first three four n there k v ∙ rw q
+
+  -- by its event and its four-packed event as they are read
+  pub events-acts : (e : Event) (f : ℕ) → event_for k three four n ≡ Some e → f ≡ four_in four n
+      → value_acts (vector_of k false 0 first three four) n ≡ register_acts k first e f n ++ hear_acts k first e n
+  unfolding event_acts
+  events-acts e f p q = both-acts false 0 first three four n there k v ∙ rw (p, q)
 
 -- Done on its slot.
 
@@ -161,36 +168,33 @@ module _ (p i : ℕ) (t u : List ℕ) (l : Laid t) (h : i < slots) where
 -- It asks for no room.
 
 module _ (first : List ℕ) (n : ℕ) (p : ℕ) (t : List ℕ) (l : Laid t) where
-  slot-room : ((i : ℕ) → get_or first i 0 < 256) → (i : ℕ) → i < slots → (a : Asked) → Walked false p (slot_asked (Slot i) (be_at 2 first 2) a) t true t
+  slot-room : ((i : ℕ) → get_or first i 0 < 256) → (i : ℕ) → i < slots → (a : Option Asked) → Walked false p (slot_asked (Some i) (be_at 2 first 2) a) t true t
   unfolding slot_asked
-  slot-room octets i h Nothing = walked_none false p t l
-  slot-room octets i h Join = domain-room p (join_domain i (be_at 2 first 2)) t l (h, omega (arith, be_at-fits 2 first 2 octets))
-  slot-room octets i h Leave = domain-room p (leave_domain i) t l h
+  slot-room octets i h None = walked_none false p t l
+  slot-room octets i h (Some Join) = domain-room p (join_domain i (be_at 2 first 2)) t l (h, omega (arith, be_at-fits 2 first 2 octets))
+  slot-room octets i h (Some Leave) = domain-room p (leave_domain i) t l h
 
-  pub register-room : ((i : ℕ) → get_or first i 0 < 256) → (e : Event) (four : ℕ) → Walked false p (register_acts 4 first e four n) t true t
+  pub register-room : ((i : ℕ) → get_or first i 0 < 256) → (e : Event) (four : ℕ) → Walked false p (register_acts domain_type first e four n) t true t
   register-room octets e four = go (domain_in first n) refl
     where
-      go : (r : DomainRead) → domain_in first n ≡ r → Walked false p (register_acts 4 first e four n) t true t
-      go (Slot i) d = rw (register-slot first n e four i d) (slot-room octets i (slot-below first n i d) (asked_by e))
-      go Dropped d = rw (register-dropped first n e four d) (walked_none false p t l)
+      go : (r : Option ℕ) → domain_in first n ≡ r → Walked false p (register_acts domain_type first e four n) t true t
+      go (Some i) d = rw (register-slot first n e four i d) (slot-room octets i (slot-below first n i d) (asked_by e))
+      go None d = rw (register-dropped first n e four d) (walked_none false p t l)
 
   -- nor does what is heard, of it or of a stream
-  domain-hear-room : (o : Overheard) → Walked false p (acts_heard 4 first n o) t true t
-  domain-hear-room Unmoved = unfold acts_heard in walked_none false p t l
-  domain-hear-room (Hears h) = go (domain_in first n) refl
+  domain-hear-room : (o : Option Heard) → Walked false p (acts_heard domain_type first n o) t true t
+  domain-hear-room None = unfold acts_heard in walked_none false p t l
+  domain-hear-room (Some h) = go (domain_in first n) refl
     where
-      go : (r : DomainRead) → domain_in first n ≡ r → Walked false p (acts_heard 4 first n (Hears h)) t true t
-      go (Slot i) d = rw (slot-hears first n i d h) (domain-room p (hear_domain i (meant h)) t l (slot-below first n i d))
-      go Dropped d = rw (dropped-hears first n d (Hears h)) (walked_none false p t l)
+      go : (r : Option ℕ) → domain_in first n ≡ r → Walked false p (acts_heard domain_type first n (Some h)) t true t
+      go (Some i) d = rw (slot-hears first n i d h) (domain-room p (hear_domain i (meant h)) t l (slot-below first n i d))
+      go None d = rw (dropped-hears first n d (Some h)) (walked_none false p t l)
 
-  stream-hear-room : (kind : ℕ) → (kind ≡ 4 → ⊥) → be_at 8 first 0 + n < 2 ^ 64 → (o : Overheard) → Walked false p (acts_heard kind first n o) t true t
-  stream-hear-room kind s small Unmoved = unfold acts_heard in walked_none false p t l
-  stream-hear-room kind s small (Hears h) = rw (stream-hears kind s first n h) (heard-room p (kind_at kind) t l (be_at 8 first 0 + n) small (meant h))
+  stream-hear-room : (k : Kind) → be_at 8 first 0 + n < 2 ^ 64 → (o : Option Heard) → Walked false p (acts_heard (registers k) first n o) t true t
+  stream-hear-room k small None = unfold acts_heard in walked_none false p t l
+  stream-hear-room k small (Some h) = rw (stream-hears k first n h) (heard-room p k t l (be_at 8 first 0 + n) small (meant h))
 
-  pub hear-room : ((i : ℕ) → get_or first i 0 < 256) → (kind : ℕ) → HasValue kind first n → (e : Event) → Walked false p (hear_acts kind first e n) t true t
+  pub hear-room : ((i : ℕ) → get_or first i 0 < 256) → (k : Attribute) → HasValue k first n → (e : Event) → Walked false p (hear_acts k first e n) t true t
   unfolding hear_acts
-  hear-room octets kind v e = go (ℕ_discrete kind 4)
-    where
-      go : Dec (kind ≡ 4) → Walked false p (acts_heard kind first n (overheard_by e)) t true t
-      go (yes q) = rw q (domain-hear-room (overheard_by e))
-      go (no q) = stream-hear-room kind q (value-id-fits kind first n v (omega (arith, v.high)) octets) (overheard_by e)
+  hear-room octets (registers k) v e = stream-hear-room k (value-id-fits k first n v octets) (overheard_by e)
+  hear-room octets domain_type v e = domain-hear-room (overheard_by e)

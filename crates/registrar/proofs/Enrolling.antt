@@ -13,7 +13,7 @@ use Rattle.model.proofs.Commute.{Change, Keeps, acted, acted-keeps}
 use Rattle.model.proofs.FoundVectors.{Fits}
 use Rattle.model.proofs.FrameOrder.{held-ids, joined}
 use Rattle.model.proofs.Fits.{bridge-read, laid-is, laid-fits}
-use Rattle.table.specs.declared.Found.TheVariants.{At, Gap}
+use Rattle.std.specs.Prelude.{Ok, Err}
 use Rattle.table.specs.Find.{found_at}
 use Rattle.table.specs.Updates.{inserted, with_cell}
 use Rattle.table.proofs.Finding.{between-found, length_ids}
@@ -33,13 +33,13 @@ use Rattle.registrar.proofs.Touched.{stream-touched}
 -- A record is there, or is made, or there is no room.
 
 module _ (t : List ℕ) (l : Laid t) (i k : ℕ) where
-  pub enrolled-there : found_at i 0 (ids (decode t).streams) ≡ At k → EnrolledAt i t k t
+  pub enrolled-there : found_at i 0 (ids (decode t).streams) ≡ Ok k → EnrolledAt i t k t
   unfolding enrolled holding
   enrolled-there e =
       let r = room_at i k (decode t).streams e in
       record { few = rw r (laid-fits t l).at_most_64; found = rw r e; table = rw r (laid-is t l) }
 
-  module _ (e : found_at i 0 (ids (decode t).streams) ≡ Gap k) where
+  module _ (e : found_at i 0 (ids (decode t).streams) ≡ Err k) where
     more : length (enrolled i t) ≡ length (decode t).streams + 1
     unfolding enrolled
     more = ap length (room-gap i k (decode t).streams e) ∙ length-put-in i k (decode t).streams (at_gap i k (decode t).streams e).within
@@ -48,7 +48,7 @@ module _ (t : List ℕ) (l : Laid t) (i k : ℕ) where
     no_room h = record { many = omega (arith, more); table = refl }
 
     -- the new record stands at its place
-    pub stands : i < 2 ^ 64 → length (decode t).streams < 64 → found_at i 0 (ids (inserted k i (decode t)).streams) ≡ At k
+    pub stands : i < 2 ^ 64 → length (decode t).streams < 64 → found_at i 0 (ids (inserted k i (decode t)).streams) ≡ Ok k
     unfolding holding ids fresh
     stands small h =
         let x = (inserted k i (decode t)).streams in
@@ -141,7 +141,7 @@ module _ (p i : ℕ) (a : Act) (j : Joins i a) (t : List ℕ) where
       pub enrolled-read : decode u ≡ holding (decode t) (enrolled i t)
       enrolled-read = ap decode n.table ∙ bridge-read (holding (decode t) (enrolled i t)) enrolled-fits
 
-      pub enrolled-found : found_at i 0 (ids (decode u).streams) ≡ At k
+      pub enrolled-found : found_at i 0 (ids (decode u).streams) ≡ Ok k
       unfolding holding
       enrolled-found = rw enrolled-read n.found
 

@@ -13,7 +13,7 @@ use Rattle.model.proofs.Commute.{Change, acted}
 use Rattle.model.proofs.FoundVectors.{Fits}
 use Rattle.model.proofs.FrameOrder.{held-ids}
 use Rattle.model.proofs.Fits.{laid-is, laid-fits}
-use Rattle.table.specs.declared.Found.TheVariants.{At, Gap}
+use Rattle.std.specs.Prelude.{Ok, Err}
 use Rattle.table.specs.Find.{found_at}
 use Rattle.table.specs.Updates.{with_stream, with_cell, with_sends, with_sender}
 use Rattle.table.proofs.Places.{at_place, at_gap}
@@ -91,7 +91,7 @@ module _ (p : ℕ) (k : Kind) (t u : List ℕ) (l : Laid t) (e : u ≡ encode (h
 
 -- On a table: the stream found, changed.
 
-pub stream-touched : (t : List ℕ) (i k : ℕ) → found_at i 0 (ids (decode t).streams) ≡ At k → (b : Bool) (g : Change)
+pub stream-touched : (t : List ℕ) (i k : ℕ) → found_at i 0 (ids (decode t).streams) ≡ Ok k → (b : Bool) (g : Change)
     → encode (with_stream k (g (stream_at k (decode t))) (decode t)) ≡ encode (holding (decode t) (touch b i g (decode t).streams))
 stream-touched t i k e b g =
     ap (λ (s : List Stream). encode (holding (decode t) s)) (sym ((at_place i k (decode t).streams e).touched b g))
@@ -126,13 +126,13 @@ module _ (p : ℕ) (t : List ℕ) (l : Laid t) (i : ℕ) (a : Act) (w : Single i
       let s = effect true now p a held in
       rw (held-ids s, effect-ids true now p a held, w.joins-none, ← held-ids held) (laid-fits t l).at_most_64
 
-  one-unheld : (n : ℕ) → found_at i 0 (ids (decode t).streams) ≡ Gap n → Walked true p (a ∷ []) t true t
+  one-unheld : (n : ℕ) → found_at i 0 (ids (decode t).streams) ≡ Err n → Walked true p (a ∷ []) t true t
   unfolding done effect apply holding
   one-unheld n e =
       act-done true p a t w.of-stream t l w.fits as_many
       (laid-is t l ∙ ap (λ (s : List Stream). encode (holding (decode t) s)) (sym (w.reaches _ held ∙ (at_gap i n held e).untouched _)))
 
-  one-held : (n : ℕ) → found_at i 0 (ids (decode t).streams) ≡ At n → (g : Change) → acted (decode t).clock p a ≡ g → (u : List ℕ)
+  one-held : (n : ℕ) → found_at i 0 (ids (decode t).streams) ≡ Ok n → (g : Change) → acted (decode t).clock p a ≡ g → (u : List ℕ)
       → u ≡ encode (with_stream n (g (stream_at n (decode t))) (decode t)) → Walked true p (a ∷ []) t true u
   unfolding done effect apply
   one-held n e g c u q =
@@ -147,10 +147,10 @@ module _ (p : ℕ) (t : List ℕ) (l : Laid t) (i : ℕ) (a : Act) (w : Single i
 module _ (p : ℕ) (k : Kind) (t : List ℕ) (l : Laid t) (i : ℕ) (small : i < 2 ^ 64) where
   -- Lv
 
-  pub left-unheld : (n : ℕ) → found_at i 0 (ids (decode t).streams) ≡ Gap n → Walked true p (leave k i ∷ []) t true t
+  pub left-unheld : (n : ℕ) → found_at i 0 (ids (decode t).streams) ≡ Err n → Walked true p (leave k i ∷ []) t true t
   left-unheld = one-unheld p t l i (leave k i) (leave-single k i small)
 
-  pub left-held : (n now : ℕ) → found_at i 0 (ids (decode t).streams) ≡ At n → now ≡ (decode t).clock
+  pub left-held : (n now : ℕ) → found_at i 0 (ids (decode t).streams) ≡ Ok n → now ≡ (decode t).clock
       → (u : List ℕ) → u ≡ encode (with_cell n p (quit now k) (decode t)) → Walked true p (leave k i ∷ []) t true u
   unfolding does moves
   left-held n now e c u q =
@@ -161,10 +161,10 @@ module _ (p : ℕ) (k : Kind) (t : List ℕ) (l : Laid t) (i : ℕ) (small : i <
 
   -- what is heard
   module _ (h : Heard) where
-    pub heard-unheld : (n : ℕ) → found_at i 0 (ids (decode t).streams) ≡ Gap n → Walked true p (hear k i h ∷ []) t true t
+    pub heard-unheld : (n : ℕ) → found_at i 0 (ids (decode t).streams) ≡ Err n → Walked true p (hear k i h ∷ []) t true t
     heard-unheld = one-unheld p t l i (hear k i h) (hear-single k i h small)
 
-    pub heard-held : (n : ℕ) → found_at i 0 (ids (decode t).streams) ≡ At n → (u : List ℕ) → u ≡ encode (with_sends n p (hears k h) (decode t))
+    pub heard-held : (n : ℕ) → found_at i 0 (ids (decode t).streams) ≡ Ok n → (u : List ℕ) → u ≡ encode (with_sends n p (hears k h) (decode t))
         → Walked true p (hear k i h ∷ []) t true u
     unfolding does moves
     heard-held n e u q = one-held p t l i (hear k i h) (hear-single k i h small) n e _ (acted-sends (decode t).clock p (hear k i h) (λ c. refl)) u q

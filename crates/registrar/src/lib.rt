@@ -2,83 +2,70 @@
 #![tactic(auto)]
 
 ghost use Rattle.std.specs.Prelude.{◌≡◌, true, false, ◌∷◌, [], map, ℕ, suc, ◌<◌, length};
+ghost use Rattle.model.specs.Attributes.{type_of, kind_of};
 ghost use Rattle.model.specs.Lists.{All};
 ghost use Rattle.model.specs.State.{stays, domain};
 ghost use Rattle.model.specs.Settling.{is_held};
 ghost use Rattle.model.specs.Laid.{Laid};
 ghost use Rattle.model.specs.Table.{encode, decode};
 ghost use Rattle.model.specs.Registrations.{leave_all, leave, hear_all, hear, quit, does, hears, of_domain, leave_all_domains, hear_all_domains, hear_domain, quit_domain, hears_leave_all, holding};
-ghost use Rattle.model.specs.Frames.{vectors, walk, value_acts, values_acts, leave_all_acts, vector_acts};
+ghost use Rattle.model.specs.Frames.{domain_type, vectors, walk, value_acts, values_acts, leave_all_acts, vector_acts};
 ghost use Rattle.table.specs.Updates.{with_cell, with_sends, with_slot, with_sender};
 ghost use Rattle.table.specs.Places.{StandsOn, PortIn, SlotIn};
-ghost use Rattle.cells.specs.Acts.{kind_at};
 ghost use Rattle.hearing.specs.Hears.{meant};
 ghost use Rattle.msrpdu.specs.Reader.{head_vector};
 ghost use Rattle.registrar.specs.Walked.{Walked, Receives};
 ghost use Rattle.registrar.specs.Enrols.{Enrols};
-ghost use Rattle.registrar.specs.Asks.{QuitGiven, DomainGiven, LeaveGiven, CellGiven, FrameGiven, WalkGiven, ListGiven, VectorGiven, ValuesGiven, ValueGiven, EventGiven, HearGiven, JoinGiven};
-ghost use Rattle.registrar.specs.Acts.{acts_of, attribute_at, vector_of, join_of, event_for, asked_by, register_acts, overheard_by, hear_acts, leave_heard};
+ghost use Rattle.registrar.specs.Asks.{DomainGiven, CellGiven, FrameGiven, ListGiven, VectorGiven, ValuesGiven, ValueGiven, EventGiven, HearGiven, JoinGiven};
+ghost use Rattle.registrar.specs.Acts.{acts_of, vector_of, join_of, event_for, register_acts, overheard_by, hear_acts, leave_heard};
 
 use hearing::Heard;
-use msrpdu::{DomainRead, Event, MessageRead, ValueRead, VectorHead, VectorRead};
-use table::Found;
+use model::attribute::{Attribute, StreamAttribute};
+use model::event::{Asked, Event};
+use msrpdu::{MessageRead, VectorHead, VectorRead};
 
 // The place of the VLAN in a Domain FirstValue.
 const FIRST_DOMAIN_VLAN: usize = 2;
 
-// What the event of a value asks of a Registrar: a join, a leave, or nothing.
-#[derive(Clone, Copy)]
-enum Asked {
-    Nothing,
-    Join,
-    Leave,
-}
-
-// What an Applicant hears of it, or that it does not move.
-#[derive(Clone, Copy)]
-enum Overheard {
-    Unmoved,
-    Hears(Heard),
-}
-
 // A walk over an AttributeList: the place p of its port, whether it applies the list or makes room for it, the PDU's version and
 // the AttributeType.
+// A flag and not two walks: what makes room and what applies must meet the same values in the same order.
 #[derive(Clone, Copy)]
 struct ListWalk {
     p: usize,
     applying: bool,
     version: u8,
-    kind: u8,
+    attribute: Attribute,
 }
 
-// The record of a stream, or that there is no room for one.
+// The same over the values of streams.
 #[derive(Clone, Copy)]
-enum Enrolment {
-    Record(usize),
-    Full,
+struct StreamWalk {
+    p: usize,
+    applying: bool,
+    attribute: StreamAttribute,
 }
 
 // Lv or LeaveAll of an AttributeType, on stream k's cell at a port.
-fn quit_cell(table: &mut [u8], k: usize, p: usize, kind: u8, clock: u32)
-    requires { QuitGiven table.old k p kind }
-    ensures { table.new ≡ encode (with_cell k p (quit clock (kind_at kind)) (decode table.old)) }
+fn quit_cell(table: &mut [u8], k: usize, p: usize, attribute: StreamAttribute, clock: u32)
+    requires { StandsOn table.old k p }
+    ensures { table.new ≡ encode (with_cell k p (quit clock (kind_of attribute)) (decode table.old)) }
 {
     let a = table::cell_in(table, k, p);
-    cells::quit(&mut table[a..a + table::CELL], kind, clock);
+    cells::quit(&mut table[a..a + table::CELL], attribute, clock);
 }
 
 // A join on stream k's cell: value n of a FirstValue, or a Listener of a four-packed event.
-fn join_cell(table: &mut [u8], k: usize, walk: ListWalk, first: &[u8], four: u8, n: usize)
+fn join_cell(table: &mut [u8], k: usize, walk: StreamWalk, first: &[u8], four: u8, n: usize)
     requires { CellGiven table.old k walk first.now four n }
     ensures { (clock : ℕ) → table.new ≡ encode (with_cell k walk.p
-        (does clock (join_of (kind_at walk.kind) first.now four n)) (decode table.old)) }
+        (does clock (join_of (kind_of walk.attribute) first.now four n)) (decode table.old)) }
 {
     let a = table::cell_in(table, k, walk.p);
-    let end = a + table::CELL;
-    if walk.kind == 3 {
-        cells::join_listener(&mut table[a..end], four);
-    } else {
-        cells::join_talker(&mut table[a..end], walk.kind, first, n);
+    let cell = &mut table[a..a + table::CELL];
+    match walk.attribute {
+        StreamAttribute::Listener => cells::join_listener(cell, four),
+        StreamAttribute::Talker(talker) => cells::join_talker(cell, talker, first, n),
     }
 }
 
@@ -106,64 +93,59 @@ pub fn leave_domains(table: &mut [u8], p: usize)
     ensures { Walked true p (of_domain leave_all_domains ∷ []) table.old true table.new }
 {
     let now = table::clock(table);
-    let mut slot: usize = 0;
-    while slot < table::SLOTS {
+    for slot in 0..table::SLOTS {
         quit_slot(table, p, slot, now);
-        slot += 1;
     }
 }
 
 // LeaveAll of an AttributeType at a port: on each stream.
-pub fn leave_all(table: &mut [u8], p: usize, kind: u8)
-    requires { LeaveGiven table.old p kind }
-    ensures { Walked true p (leave_all (kind_at kind) ∷ []) table.old true table.new }
+pub fn leave_all(table: &mut [u8], p: usize, attribute: StreamAttribute)
+    requires { PortIn table.old p }
+    ensures { Walked true p (leave_all (kind_of attribute) ∷ []) table.old true table.new }
 {
-    let held = table::count(table);
     let now = table::clock(table);
-    let mut k: usize = 0;
-    while k < held {
-        quit_cell(table, k, p, kind, now);
-        k += 1;
+    for k in 0..table::count(table) {
+        quit_cell(table, k, p, attribute, now);
     }
 }
 
 // Lv of a StreamID and an AttributeType at a port: on its cell, where it is held.
-fn withdraw(table: &mut [u8], p: usize, kind: u8, id: u64)
-    requires { LeaveGiven table.old p kind }
-    ensures { Walked true p (leave (kind_at kind) id ∷ []) table.old true table.new }
+fn withdraw(table: &mut [u8], p: usize, attribute: StreamAttribute, id: u64)
+    requires { PortIn table.old p }
+    ensures { Walked true p (leave (kind_of attribute) id ∷ []) table.old true table.new }
 {
-    let Found::At(k) = table::find(table, id) else {
+    let Ok(k) = table::find(table, id) else {
         return;
     };
     let now = table::clock(table);
-    quit_cell(table, k, p, kind, now);
+    quit_cell(table, k, p, attribute, now);
 }
 
 // A record for a stream: the one that it has, or an empty one at its place, unless there are 64.
-fn enrol(table: &mut [u8], id: u64) -> Enrolment
+fn enrol(table: &mut [u8], id: u64) -> Option<usize>
     requires { Laid table.old }
     ensures { Enrols id table.old result table.new }
 {
-    let f = table::find(table, id);
-    match f {
-        Found::At(k) => Enrolment::Record(k),
-        Found::Gap(k) => {
+    match table::find(table, id) {
+        Ok(k) => Some(k),
+        Err(k) => {
             if table::count(table) == 64 {
-                return Enrolment::Full;
+                return None;
             }
             table::insert(table, k, id);
-            Enrolment::Record(k)
+            Some(k)
         }
     }
 }
 
 // A join at a port: its record is there or is made; where the frame is applied, its cell is changed.
-fn join(table: &mut [u8], walk: ListWalk, id: u64, first: &[u8], four: u8, n: usize) -> bool
+// first, four and n stay parameters for the reason that stands at value.
+fn join(table: &mut [u8], walk: StreamWalk, id: u64, first: &[u8], four: u8, n: usize) -> bool
     requires { JoinGiven table.old walk id first.now four n }
-    ensures { Walked walk.applying walk.p (join_of (kind_at walk.kind) first.now four n ∷ []) table.old result
+    ensures { Walked walk.applying walk.p (join_of (kind_of walk.attribute) first.now four n ∷ []) table.old result
         table.new }
 {
-    let Enrolment::Record(k) = enrol(table, id) else {
+    let Some(k) = enrol(table, id) else {
         return false;
     };
     if walk.applying {
@@ -173,23 +155,23 @@ fn join(table: &mut [u8], walk: ListWalk, id: u64, first: &[u8], four: u8, n: us
 }
 
 // What is heard by the Applicant of an AttributeType, of stream k at a port.
-fn hear_sends(table: &mut [u8], k: usize, p: usize, kind: u8, heard: Heard)
+fn hear_sends(table: &mut [u8], k: usize, p: usize, attribute: StreamAttribute, heard: Heard)
     requires { StandsOn table.old k p }
-    ensures { table.new ≡ encode (with_sends k p (hears (kind_at kind) (meant heard)) (decode table.old)) }
+    ensures { table.new ≡ encode (with_sends k p (hears (kind_of attribute) (meant heard)) (decode table.old)) }
 {
     let a = table::sends_in(table, k, p);
-    hearing::hear(&mut table[a..a + table::SENDS], kind, heard);
+    hearing::hear(&mut table[a..a + table::SENDS], attribute, heard);
 }
 
 // The same by its StreamID: a stream that is not held has no Applicant.
-fn hear_stream(table: &mut [u8], p: usize, kind: u8, id: u64, heard: Heard)
+fn hear_stream(table: &mut [u8], p: usize, attribute: StreamAttribute, id: u64, heard: Heard)
     requires { PortIn table.old p }
-    ensures { Walked true p (hear (kind_at kind) id (meant heard) ∷ []) table.old true table.new }
+    ensures { Walked true p (hear (kind_of attribute) id (meant heard) ∷ []) table.old true table.new }
 {
-    let Found::At(k) = table::find(table, id) else {
+    let Ok(k) = table::find(table, id) else {
         return;
     };
-    hear_sends(table, k, p, kind, heard);
+    hear_sends(table, k, p, attribute, heard);
 }
 
 // What is heard by the Applicant of a Domain value of a port.
@@ -223,87 +205,64 @@ fn restart(table: &mut [u8], p: usize)
 }
 
 // LeaveAll of an AttributeType, heard by the Applicants of its streams.
-fn hear_streams(table: &mut [u8], p: usize, kind: u8)
+fn hear_streams(table: &mut [u8], p: usize, attribute: StreamAttribute)
     requires { PortIn table.old p }
     ensures { table.new
-        ≡ encode (holding (decode table.old) (map (leave_heard p (kind_at kind)) (decode table.old).streams)) }
+        ≡ encode (holding (decode table.old) (map (leave_heard p (kind_of attribute)) (decode table.old).streams)) }
 {
-    let held = table::count(table);
-    let mut k: usize = 0;
-    while k < held {
-        hear_sends(table, k, p, kind, Heard::Leave);
-        k += 1;
+    for k in 0..table::count(table) {
+        hear_sends(table, k, p, attribute, Heard::Leave);
     }
 }
 
 // The same, by these and by the LeaveAll machine.
-fn hear_all(table: &mut [u8], p: usize, kind: u8)
+fn hear_all(table: &mut [u8], p: usize, attribute: StreamAttribute)
     requires { PortIn table.old p }
-    ensures { Walked true p (hear_all (kind_at kind) ∷ []) table.old true table.new }
+    ensures { Walked true p (hear_all (kind_of attribute) ∷ []) table.old true table.new }
 {
-    hear_streams(table, p, kind);
+    hear_streams(table, p, attribute);
     restart(table, p);
 }
 
 // The event of value n; a Listener's is none where its FourPackedEvent is Ignore.
-fn event_for(kind: u8, events: &[u8], fours: &[u8], n: usize) -> Event
-    ensures { result ≡ event_for kind events.now fours.now n }
+#[tactic(auto, unfolding(crate::specs::Acts::event_for, model::specs::Frames::has_four))]
+fn event_for(attribute: Attribute, events: &[u8], fours: &[u8], n: usize) -> Option<Event>
+    ensures { result ≡ event_for (type_of attribute) events.now fours.now n }
 {
-    let four = msrpdu::four_of(fours, n);
-    if kind == 3 {
-        if four == 0 {
-            return Event::Missing;
-        }
-    }
-    msrpdu::event_of(events, n)
-}
-
-// What an event asks of a Registrar; "Ignore, In and Mt do nothing".
-fn ask(e: Event) -> Asked
-    ensures { result ≡ asked_by e }
-{
-    match e {
-        Event::New => Asked::Join,
-        Event::JoinIn => Asked::Join,
-        Event::In => Asked::Nothing,
-        Event::JoinMt => Asked::Join,
-        Event::Mt => Asked::Nothing,
-        Event::Lv => Asked::Leave,
-        Event::Missing => Asked::Nothing,
+    match attribute {
+        Attribute::Listener if msrpdu::four_of(fours, n) == 0 => None,
+        _ => msrpdu::event_of(events, n),
     }
 }
 
-// What an Applicant hears of it; "In and Mt count now", and New moves nothing.
-fn overhear(e: Event) -> Overheard
-    ensures { result ≡ overheard_by e }
+// What an Applicant hears of an event; "In and Mt count now", and New moves nothing.
+#[tactic(auto, unfolding(crate::specs::Acts::overheard_by))]
+fn overhear(event: Event) -> Option<Heard>
+    ensures { result ≡ overheard_by event }
 {
-    match e {
-        Event::New => Overheard::Unmoved,
-        Event::JoinIn => Overheard::Hears(Heard::In),
-        Event::In => Overheard::Hears(Heard::In),
-        Event::JoinMt => Overheard::Hears(Heard::Empty),
-        Event::Mt => Overheard::Hears(Heard::Empty),
-        Event::Lv => Overheard::Hears(Heard::Leave),
-        Event::Missing => Overheard::Unmoved,
+    match event {
+        Event::New => None,
+        Event::JoinIn | Event::In => Some(Heard::In),
+        Event::JoinMt | Event::Mt => Some(Heard::Empty),
+        Event::Lv => Some(Heard::Leave),
     }
 }
 
 // What value n of a Domain vector asks of a Registrar at a port: "other values are checked and dropped".
-fn register_domain(table: &mut [u8], p: usize, first: &[u8], e: Event, n: usize)
+fn register_domain(table: &mut [u8], p: usize, first: &[u8], event: Event, n: usize)
     requires { DomainGiven table.old p first.now n }
-    ensures { Walked true p (register_acts 4 first.now e 0 n) table.old true table.new }
+    ensures { Walked true p (register_acts domain_type first.now event 0 n) table.old true table.new }
 {
-    let DomainRead::Slot(slot) = msrpdu::domain_slot(first, n) else {
+    let Some(slot) = msrpdu::domain_slot(first, n) else {
         return;
     };
-    let a = ask(e);
-    match a {
-        Asked::Nothing => {}
-        Asked::Join => {
+    match event.asked() {
+        None => {}
+        Some(Asked::Join) => {
             let vlan = octets::get(first, FIRST_DOMAIN_VLAN, 2);
             join_slot(table, p, slot, vlan);
         }
-        Asked::Leave => {
+        Some(Asked::Leave) => {
             let now = table::clock(table);
             quit_slot(table, p, slot, now);
         }
@@ -312,27 +271,41 @@ fn register_domain(table: &mut [u8], p: usize, first: &[u8], e: Event, n: usize)
 
 // What value n of a vector asks of a Registrar at a port: "A value is applied only if the vector reader gave one". A Domain value asks
 // for no room.
-fn register(table: &mut [u8], walk: ListWalk, first: &[u8], e: Event, four: u8, n: usize) -> bool
-    requires { EventGiven table.old walk first.now e four n }
-    ensures { Walked walk.applying walk.p (register_acts walk.kind first.now e four n) table.old result
+fn register(
+    table: &mut [u8],
+    walk: ListWalk,
+    first: &[u8],
+    event: Event,
+    four: u8,
+    n: usize,
+) -> bool
+    requires { EventGiven table.old walk first.now four n }
+    ensures { Walked walk.applying walk.p (register_acts (type_of walk.attribute) first.now event four n) table.old result
         table.new }
 {
-    if walk.kind == 4 {
-        if walk.applying {
-            register_domain(table, walk.p, first, e, n);
+    let ListWalk { p, applying, .. } = walk;
+    let Some(attribute) = walk.attribute.of_stream() else {
+        if applying {
+            register_domain(table, p, first, event, n);
         }
         return true;
-    }
-    let ValueRead::Value(id) = msrpdu::stream_id(first, n) else {
+    };
+    let Some(id) = msrpdu::stream_id(first, n) else {
         return true;
     };
-    let a = ask(e);
-    match a {
-        Asked::Nothing => true,
-        Asked::Join => join(table, walk, id, first, four, n),
-        Asked::Leave => {
-            if walk.applying {
-                withdraw(table, walk.p, walk.kind, id);
+    match event.asked() {
+        None => true,
+        Some(Asked::Join) => {
+            let streams = StreamWalk {
+                p,
+                applying,
+                attribute,
+            };
+            join(table, streams, id, first, four, n)
+        }
+        Some(Asked::Leave) => {
+            if applying {
+                withdraw(table, p, attribute, id);
             }
             true
         }
@@ -340,27 +313,28 @@ fn register(table: &mut [u8], walk: ListWalk, first: &[u8], e: Event, four: u8, 
 }
 
 // What the Applicant of its type and key hears of value n of a vector at a port.
-fn hear_value(table: &mut [u8], walk: ListWalk, first: &[u8], e: Event, n: usize)
+fn hear_value(table: &mut [u8], walk: ListWalk, first: &[u8], event: Event, n: usize)
     requires { HearGiven table.old walk first.now n }
-    ensures { Walked true walk.p (hear_acts walk.kind first.now e n) table.old true table.new }
+    ensures { Walked true walk.p (hear_acts (type_of walk.attribute) first.now event n) table.old true table.new }
 {
-    let Overheard::Hears(heard) = overhear(e) else {
+    let Some(heard) = overhear(event) else {
         return;
     };
-    if walk.kind == 4 {
-        let DomainRead::Slot(slot) = msrpdu::domain_slot(first, n) else {
+    let Some(attribute) = walk.attribute.of_stream() else {
+        let Some(slot) = msrpdu::domain_slot(first, n) else {
             return;
         };
         hear_slot(table, walk.p, slot, heard);
         return;
-    }
-    let ValueRead::Value(id) = msrpdu::stream_id(first, n) else {
+    };
+    let Some(id) = msrpdu::stream_id(first, n) else {
         return;
     };
-    hear_stream(table, walk.p, walk.kind, id, heard);
+    hear_stream(table, walk.p, attribute, id, heard);
 }
 
-// Value n of a vector at a port: to its Registrar, and then to its Applicant.
+// Value n of a vector at a port: to its Registrar, and then to its Applicant. (A struct of the three slices gets no proof: that its
+// octets are below 256 is known of slices that are parameters.)
 fn value(
     table: &mut [u8],
     walk: ListWalk,
@@ -371,17 +345,18 @@ fn value(
 ) -> bool
     requires { ValueGiven table.old walk first.now events.now n }
     ensures { Walked walk.applying walk.p
-        (value_acts (vector_of walk.kind false 0 first.now events.now fours.now) n)
+        (value_acts (vector_of (type_of walk.attribute) false 0 first.now events.now fours.now) n)
         table.old result table.new }
 {
-    let e = event_for(walk.kind, events, fours, n);
+    let Some(event) = event_for(walk.attribute, events, fours, n) else {
+        return true;
+    };
     let four = msrpdu::four_of(fours, n);
-    let went = register(table, walk, first, e, four, n);
-    if !went {
+    if !register(table, walk, first, event, four, n) {
         return false;
     }
     if walk.applying {
-        hear_value(table, walk, first, e, n);
+        hear_value(table, walk, first, event, n);
     }
     true
 }
@@ -397,24 +372,21 @@ fn values(
 ) -> bool
     requires { ValuesGiven table.old walk first.now events.now count }
     ensures { Walked walk.applying walk.p
-        (values_acts (vector_of walk.kind false 0 first.now events.now fours.now) 0 count)
+        (values_acts (vector_of (type_of walk.attribute) false 0 first.now events.now fours.now) 0 count)
         table.old result table.new }
 {
-    let mut n: usize = 0;
-    while n < count {
-        let went = value(table, walk, first, events, fours, n);
-        if !went {
+    for n in 0..count {
+        if !value(table, walk, first, events, fours, n) {
             return false;
         }
-        n += 1;
     }
     true
 }
 
 // LeaveAll of a vector at a port, which asks for no room.
 fn begin_all(table: &mut [u8], walk: ListWalk, leaves: bool)
-    requires { WalkGiven table.old walk }
-    ensures { Walked walk.applying walk.p (leave_all_acts (attribute_at walk.kind) leaves) table.old true
+    requires { PortIn table.old walk.p }
+    ensures { Walked walk.applying walk.p (leave_all_acts (type_of walk.attribute) leaves) table.old true
         table.new }
 {
     if !walk.applying {
@@ -423,34 +395,30 @@ fn begin_all(table: &mut [u8], walk: ListWalk, leaves: bool)
     if !leaves {
         return;
     }
-    if walk.kind == 4 {
+    let Some(attribute) = walk.attribute.of_stream() else {
         leave_domains(table, walk.p);
         hear_domains(table, walk.p);
         return;
-    }
-    leave_all(table, walk.p, walk.kind);
-    hear_all(table, walk.p, walk.kind);
+    };
+    leave_all(table, walk.p, attribute);
+    hear_all(table, walk.p, attribute);
 }
 
 // The vector that was read at a place of its AttributeList: "LeaveAll first".
 fn vector(table: &mut [u8], walk: ListWalk, list: &[u8], head: VectorHead) -> bool
     requires { VectorGiven table.old walk list.now head }
-    ensures { Walked walk.applying walk.p (vector_acts (head_vector (attribute_at walk.kind) list.now head))
+    ensures { Walked walk.applying walk.p (vector_acts (head_vector (type_of walk.attribute) list.now head))
         table.old result table.new }
 {
-    let first = msrpdu::first_value(list, VectorRead::Vector(head));
-    let count = head.values;
-    let three = head.three;
-    let four = head.four;
-    let next = head.next;
+    let first = msrpdu::first_value_at(list, head);
     begin_all(table, walk, head.leaves);
     values(
         table,
         walk,
         first,
-        &list[three..four],
-        &list[four..next],
-        count,
+        &list[head.three..head.four],
+        &list[head.four..head.next],
+        head.values,
     )
 }
 
@@ -458,17 +426,16 @@ fn vector(table: &mut [u8], walk: ListWalk, list: &[u8], head: VectorHead) -> bo
 fn list(table: &mut [u8], walk: ListWalk, list: &[u8]) -> bool
     requires { ListGiven table.old walk list.now }
     ensures { Walked walk.applying walk.p
-        (acts_of (vectors (suc (length list.now)) walk.version (attribute_at walk.kind) list.now 0))
+        (acts_of (vectors (suc (length list.now)) walk.version (type_of walk.attribute) list.now 0))
         table.old result table.new }
 {
     let mut at: usize = 0;
     loop {
-        let v = msrpdu::typed_vector(list, at, walk.version, walk.kind);
-        match v {
-            // none in a frame that is well-formed
-            VectorRead::Refused(_) => {
-                return true;
-            }
+        // none is refused in a frame that is well-formed
+        let Ok(read) = msrpdu::attribute_vector(list, at, walk.version, walk.attribute) else {
+            return true;
+        };
+        match read {
             VectorRead::EndMark => {
                 return true;
             }
@@ -495,12 +462,11 @@ fn frame(table: &mut [u8], p: usize, applying: bool, pdu: &[u8]) -> bool
     let version = pdu[0];
     let mut at: usize = 1;
     loop {
-        let m = msrpdu::message(pdu, version, at);
-        match m {
-            // none in a frame that is well-formed
-            MessageRead::Refused(_) => {
-                return true;
-            }
+        // none is refused in a frame that is well-formed
+        let Ok(read) = msrpdu::message(pdu, version, at) else {
+            return true;
+        };
+        match read {
             MessageRead::End => {
                 return true;
             }
@@ -514,7 +480,7 @@ fn frame(table: &mut [u8], p: usize, applying: bool, pdu: &[u8]) -> bool
                     p,
                     applying,
                     version,
-                    kind: head.kind,
+                    attribute: head.attribute,
                 };
                 let went = list(table, walk, &pdu[start..end]);
                 if !went {

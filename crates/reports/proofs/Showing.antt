@@ -7,9 +7,13 @@ use lib.ListN.{length, get_or, get_or-replicate, get_or-eq_default}
 use borrow.Author.Tests.{le-ltb}
 use Rattle.octets.specs.Be.{be_at}
 use Rattle.octets.specs.Fields.{fields}
+use Rattle.std.specs.Prelude.{Result as Answered, Ok, Err}
+use Rattle.std.specs.Result.{ResultUnwrapsOrElse}
+use Rattle.model.specs.Numbers.{answer_number}
+use Rattle.model.specs.declared.refusal.Refusal.{Refusal}
 use Rattle.model.specs.Layout.{in_result, in_port, in_totals}
 use Rattle.model.specs.State.{Port, Column, none, advertise, failed, Result, Totals, Bridge, result_at, stream_at, unsettled, fresh}
-use Rattle.model.specs.Reports.{word_of, code_of, report}
+use Rattle.model.specs.Reports.{refused_report, word_of, code_of, report}
 use Rattle.model.specs.Table.{port_from, to_port, column_number, column_code, to_column, to_entry, to_declared, to_totals}
 use Rattle.model.proofs.Results.{entry-back, declared-back}
 use Rattle.table.specs.Reads.{ReadsResult, ReadsPort, ReadsTotals}
@@ -19,7 +23,8 @@ use Rattle.reports.specs.declared.ListenerShown.TheVariants as listener
 use Rattle.reports.specs.declared.EntryShown.TheVariants as entry
 use Rattle.reports.specs.declared.StreamShown.{StreamShown}
 use Rattle.reports.specs.declared.PortShown.{PortShown}
-use Rattle.reports.specs.Shown.{column_word, declared, entered, shown, ShowsStream, ShowsPort}
+use Rattle.reports.specs.declared.Reported.{Reported}
+use Rattle.reports.specs.Shown.{column_word, declared, entered, shown, answered, ShowsStream, ShowsPort}
 
 -- A stream's result.
 
@@ -74,35 +79,22 @@ no_result : (p : ℕ) → p < 8 → result_at (fresh 0) p ≡ unsettled
 unfolding result_at fresh
 no_result p h = get_or-replicate 8 p unsettled unsettled h
 
-pub nothing-shown : (b : Bridge) (place p : ℕ) → length b.streams ≤ place → p < 8
-    → ShowsStream (stream_at place b) p record { id = 0; column = column.None; code = 0; listener = listener.None; entry = entry.None }
+pub nothing-shown : (b : Bridge) (place p : ℕ) (x : StreamShown) → length b.streams ≤ place → p < 8
+    → x.id ≡ 0 × (x.column ≡ column.None × (x.code ≡ 0 × (x.listener ≡ listener.None × x.entry ≡ entry.None))) → ShowsStream (stream_at place b) p x
 unfolding column_word word_of code_of declared entered unsettled
-nothing-shown b place p e h =
+nothing-shown b place p x e h d =
     rw (get_or-eq_default b.streams (fresh 0) e)
     record {
-      id = unfold fresh in refl;
-      column = ap (λ (r : Result). word_of r.column) (sym (no_result p h));
-      code = ap (λ (r : Result). code_of r.column) (sym (no_result p h));
-      listener = ap (λ (r : Result). r.declares) (sym (no_result p h));
-      entry = ap (λ (r : Result). r.entry) (sym (no_result p h));
+      id = unfold fresh in d.0;
+      column = ap column_word d.1.0 ∙ ap (λ (r : Result). word_of r.column) (sym (no_result p h));
+      code = d.1.1.0 ∙ ap (λ (r : Result). code_of r.column) (sym (no_result p h));
+      listener = ap declared d.1.1.1.0 ∙ ap (λ (r : Result). r.declares) (sym (no_result p h));
+      entry = ap entered d.1.1.1.1 ∙ ap (λ (r : Result). r.entry) (sym (no_result p h));
     }
 
 -- The whole report.
 pub report-shown : (b : Bridge) (p place n : ℕ) (q : PortShown) (x : StreamShown) → place ≤ length b.streams → n ≡ length b.streams
-    → ShowsPort b p q → ShowsStream (stream_at place b) p x
-    → shown record {
-      number = 0;
-      count = n;
-      total_a = q.total_a;
-      limit_a = q.limit_a;
-      total_b = q.total_b;
-      limit_b = q.limit_b;
-      id = x.id;
-      column = x.column;
-      code = x.code;
-      listener = x.listener;
-      entry = x.entry;
-    } ≡ report b (p + 1) place
+    → ShowsPort b p q → ShowsStream (stream_at place b) p x → shown record { count = n; port = q; stream = x } ≡ report b (p + 1) place
 unfolding shown report
 report-shown b p place n q x few e port stream =
     let i : p + 1 - 1 ≡ p = omega arith in
@@ -120,3 +112,18 @@ report-shown b p place n q x few e port stream =
       stream.listener,
       stream.entry,
     )
+
+-- A report of nothing shows what a refused one does.
+pub shown-nothing : (r : Reported) → r.count ≡ 0
+    → (r.port.a.total ≡ 0 × r.port.a.limit ≡ 0) × (r.port.b.total ≡ 0 × r.port.b.limit ≡ 0)
+    → r.stream.id ≡ 0 × (r.stream.column ≡ column.None × (r.stream.code ≡ 0 × (r.stream.listener ≡ listener.None × r.stream.entry ≡ entry.None)))
+    → shown r ≡ refused_report 0
+unfolding shown refused_report column_word declared entered
+shown-nothing r n p s = rw (n, p.0.0, p.0.1, p.1.0, p.1.1, s.0, s.1.0, s.1.1.0, s.1.1.1.0, s.1.1.1.1)
+
+-- What is answered, by the parts of the report, or of one of nothing.
+pub answered-parts : (D : Reported → Type 0) (a : Answered Reported Refusal) (r : Reported) → ((v : Reported) → D v → shown v ≡ refused_report 0)
+    → ResultUnwrapsOrElse a D r → answered a ≡ record (shown r) { number = answer_number a }
+unfolding answered
+answered-parts D (Ok v) r d u = unfold shown in rw u
+answered-parts D (Err e) r d u = rw (d r u) (unfold refused_report in refl)

@@ -1,7 +1,9 @@
--- A report as the code answers it: this paper's words and numbers for each case, and what each step of it shows.
-use Rattle.std.specs.Prelude.{◌≡◌, List, ℕ, ◌≤◌, ◌<◌, length}
+-- A report as the code answers it, in the words of the definitions, and what each step of it shows.
+use Rattle.std.specs.Prelude.{◌≡◌, List, ℕ, ◌≤◌, ◌<◌, length, Result, Ok, Err}
 use Rattle.model.specs.State.{Entry, no_entry, filters, forwards, asking_failed, ready, ready_failed, Declared, nothing, tells, Stream, Bridge, port_at, result_at, totals_at}
-use Rattle.model.specs.Reports.{ColumnWord, none_word, advertise_word, failed_word, Report, word_of, code_of}
+use Rattle.model.specs.Reports.{ColumnWord, none_word, advertise_word, failed_word, Report, refused_report, word_of, code_of}
+use Rattle.model.specs.Numbers.{refusal_number}
+use Rattle.model.specs.declared.refusal.Refusal.{Refusal}
 use Rattle.model.specs.Table.{decode}
 use Rattle.model.specs.Laid.{Laid}
 use Rattle.reports.specs.declared.ColumnShown.{ColumnShown}
@@ -32,18 +34,23 @@ entered entry.Forward = forwards
 
 unfoldable pub shown : Reported → Report
 shown r = record {
-  number = r.number;
+  number = 0;
   count = r.count;
-  total_a = r.total_a;
-  limit_a = r.limit_a;
-  total_b = r.total_b;
-  limit_b = r.limit_b;
-  id = r.id;
-  column = column_word r.column;
-  code = r.code;
-  listener = declared r.listener;
-  entry = entered r.entry;
+  total_a = r.port.a.total;
+  limit_a = r.port.a.limit;
+  total_b = r.port.b.total;
+  limit_b = r.port.b.limit;
+  id = r.stream.id;
+  column = column_word r.stream.column;
+  code = r.stream.code;
+  listener = declared r.stream.listener;
+  entry = entered r.stream.entry;
 }
+
+-- a report, or why there is none: zeros or none beside the number
+unfoldable pub answered : Result Reported Refusal → Report
+answered (Ok r) = shown r
+answered (Err e) = refused_report (refusal_number e)
 
 -- what is shown of a stream on port p
 pub record ShowsStream (x : Stream) (p : ℕ) (r : StreamShown) : Type 0 where
@@ -55,10 +62,10 @@ pub record ShowsStream (x : Stream) (p : ℕ) (r : StreamShown) : Type 0 where
 
 -- what is shown of that port
 pub record ShowsPort (b : Bridge) (p : ℕ) (r : PortShown) : Type 0 where
-  pub total_a : r.total_a ≡ (totals_at p b).total_a
-  pub limit_a : r.limit_a ≡ (port_at b.settings p).limit_a
-  pub total_b : r.total_b ≡ (totals_at p b).total_b
-  pub limit_b : r.limit_b ≡ (port_at b.settings p).limit_b
+  pub total_a : r.a.total ≡ (totals_at p b).total_a
+  pub limit_a : r.a.limit ≡ (port_at b.settings p).limit_a
+  pub total_b : r.b.total ≡ (totals_at p b).total_b
+  pub limit_b : r.b.limit ≡ (port_at b.settings p).limit_b
 
 -- a report's port and place: the place is one of a stream, or the next
 pub record ReportIn (t : List ℕ) (p place : ℕ) : Type 0 where

@@ -3,52 +3,94 @@
 
 ghost use Rattle.std.specs.Prelude.{◌≡◌, ◌+◌};
 ghost use Rattle.model.specs.State.{stream_at};
-ghost use Rattle.model.specs.Reports.{word_of, refused_report, report};
+ghost use Rattle.model.specs.Reports.{word_of, report};
 ghost use Rattle.model.specs.Table.{to_column, to_entry, to_declared, decode};
 ghost use Rattle.table.specs.Places.{StandsOn, PortIn};
 ghost use Rattle.reports.specs.Shown.{column_word, declared, entered, shown, ShowsStream, ShowsPort, ReportIn};
 
-// The words of a report.
-#[derive(Clone, Copy)]
+// The words of a report, each with its number in the table (`as`), and by it.
+// None is a word too, printed and with the number 0: as Option each of word, number and From<u8> would have a case more.
+#[derive(Clone, Copy, Default)]
 pub enum ColumnShown {
+    #[default]
     None,
     Advertise,
     Failed,
 }
 
-#[derive(Clone, Copy)]
+impl From<u8> for ColumnShown {
+    ghost from_gives = { λ number column. column_word column ≡ word_of (to_column number 0 0) };
+
+    #[tactic(auto, unfolding(crate::specs::Shown::column_word, model::specs::Reports::word_of, model::specs::Table::to_column))]
+    fn from(number: u8) -> ColumnShown {
+        match number {
+            0 => ColumnShown::None,
+            1 => ColumnShown::Advertise,
+            _ => ColumnShown::Failed,
+        }
+    }
+}
+
+#[derive(Clone, Copy, Default)]
 pub enum ListenerShown {
+    #[default]
     None,
     AskingFailed,
     Ready,
     ReadyFailed,
 }
 
-#[derive(Clone, Copy)]
+impl From<u8> for ListenerShown {
+    ghost from_gives = { λ number listener. declared listener ≡ to_declared number };
+
+    #[tactic(auto, unfolding(crate::specs::Shown::declared, model::specs::Table::to_declared, model::specs::WrittenFrames::to_ready))]
+    fn from(number: u8) -> ListenerShown {
+        match number {
+            0 => ListenerShown::None,
+            1 => ListenerShown::AskingFailed,
+            2 => ListenerShown::Ready,
+            _ => ListenerShown::ReadyFailed,
+        }
+    }
+}
+
+#[derive(Clone, Copy, Default)]
 pub enum EntryShown {
+    #[default]
     None,
     Filter,
     Forward,
 }
 
-// What report answers.
-#[derive(Clone, Copy)]
-pub struct Reported {
-    pub number: u8,
-    pub count: usize,
-    pub total_a: u64,
-    pub limit_a: u64,
-    pub total_b: u64,
-    pub limit_b: u64,
-    pub id: u64,
-    pub column: ColumnShown,
-    pub code: u8,
-    pub listener: ListenerShown,
-    pub entry: EntryShown,
+impl From<u8> for EntryShown {
+    ghost from_gives = { λ number entry. entered entry ≡ to_entry number };
+
+    #[tactic(auto, unfolding(crate::specs::Shown::entered, model::specs::Table::to_entry))]
+    fn from(number: u8) -> EntryShown {
+        match number {
+            0 => EntryShown::None,
+            1 => EntryShown::Filter,
+            _ => EntryShown::Forward,
+        }
+    }
 }
 
-// What is shown of a stream.
-#[derive(Clone, Copy)]
+// What is reserved of a class on a port, and its limit.
+#[derive(Clone, Copy, Default)]
+pub struct ClassShown {
+    pub total: u64,
+    pub limit: u64,
+}
+
+// What is shown of a port: of both classes.
+#[derive(Clone, Copy, Default)]
+pub struct PortShown {
+    pub a: ClassShown,
+    pub b: ClassShown,
+}
+
+// What is shown of a stream on a port.
+#[derive(Clone, Copy, Default)]
 pub struct StreamShown {
     pub id: u64,
     pub column: ColumnShown,
@@ -57,55 +99,12 @@ pub struct StreamShown {
     pub entry: EntryShown,
 }
 
-// What is shown of a port.
-#[derive(Clone, Copy)]
-pub struct PortShown {
-    pub total_a: u64,
-    pub limit_a: u64,
-    pub total_b: u64,
-    pub limit_b: u64,
-}
-
-// The word of a column's number.
-fn column_shown(number: u8) -> ColumnShown
-    ensures { column_word result ≡ word_of (to_column number 0 0) }
-{
-    if number == 0 {
-        return ColumnShown::None;
-    }
-    if number == 1 {
-        return ColumnShown::Advertise;
-    }
-    ColumnShown::Failed
-}
-
-// The word of a Listener's number.
-fn listener_shown(number: u8) -> ListenerShown
-    ensures { declared result ≡ to_declared number }
-{
-    if number == 0 {
-        return ListenerShown::None;
-    }
-    if number == 1 {
-        return ListenerShown::AskingFailed;
-    }
-    if number == 2 {
-        return ListenerShown::Ready;
-    }
-    ListenerShown::ReadyFailed
-}
-
-// The word of an entry's number.
-fn entry_shown(number: u8) -> EntryShown
-    ensures { entered result ≡ to_entry number }
-{
-    if number == 0 {
-        return EntryShown::None;
-    }
-    if number == 1 {
-        return EntryShown::Filter;
-    }
-    EntryShown::Forward
+// What report answers: how many streams are held, the port, and the stream at the place.
+#[derive(Clone, Copy, Default)]
+pub struct Reported {
+    pub count: usize,
+    pub port: PortShown,
+    pub stream: StreamShown,
 }
 
 // Stream k, as the last advance settled it on port p.
@@ -116,10 +115,10 @@ fn stream_shown(table: &[u8], k: usize, p: usize) -> StreamShown
     let result = table::result_at(table, k, p);
     StreamShown {
         id: table::id_at(table, k),
-        column: column_shown(result[table::result::COLUMN]),
+        column: result[table::result::COLUMN].into(),
         code: result[table::result::CODE],
-        listener: listener_shown(result[table::result::DECLARED]),
-        entry: entry_shown(result[table::result::ENTRY]),
+        listener: result[table::result::DECLARED].into(),
+        entry: result[table::result::ENTRY].into(),
     }
 }
 
@@ -132,13 +131,7 @@ fn stream_at(table: &[u8], p: usize, place: usize) -> StreamShown
     if place < count {
         return stream_shown(table, place, p);
     }
-    StreamShown {
-        id: 0,
-        column: ColumnShown::None,
-        code: 0,
-        listener: ListenerShown::None,
-        entry: EntryShown::None,
-    }
+    StreamShown::default()
 }
 
 // Class totals and limits of port p.
@@ -149,29 +142,14 @@ fn port_shown(table: &[u8], p: usize) -> PortShown
     let totals = table::totals_at(table, p);
     let port = table::port_at(table, p);
     PortShown {
-        total_a: octets::get(totals, 0, 5),
-        limit_a: octets::get(port, table::port::LIMIT_A, 5),
-        total_b: octets::get(totals, table::TOTAL_B, 6),
-        limit_b: octets::get(port, table::port::LIMIT_B, 5),
-    }
-}
-
-// A report that is refused: its number, and nothing to show.
-pub fn refused_report(number: u8) -> Reported
-    ensures { shown result ≡ refused_report number }
-{
-    Reported {
-        number,
-        count: 0,
-        total_a: 0,
-        limit_a: 0,
-        total_b: 0,
-        limit_b: 0,
-        id: 0,
-        column: ColumnShown::None,
-        code: 0,
-        listener: ListenerShown::None,
-        entry: EntryShown::None,
+        a: ClassShown {
+            total: octets::get(totals, 0, 5),
+            limit: octets::get(port, table::port::LIMIT_A, 5),
+        },
+        b: ClassShown {
+            total: octets::get(totals, table::TOTAL_B, 6),
+            limit: octets::get(port, table::port::LIMIT_B, 5),
+        },
     }
 }
 
@@ -180,23 +158,9 @@ pub fn report_at(table: &[u8], p: usize, place: usize) -> Reported
     requires { ReportIn table.now p place }
     ensures { shown result ≡ report (decode table.now) (p + 1) place }
 {
-    let count = table::count(table);
-    let port = port_shown(table, p);
-    let stream = stream_at(table, p, place);
-    let column = stream.column;
-    let listener = stream.listener;
-    let entry = stream.entry;
     Reported {
-        number: 0,
-        count,
-        total_a: port.total_a,
-        limit_a: port.limit_a,
-        total_b: port.total_b,
-        limit_b: port.limit_b,
-        id: stream.id,
-        column,
-        code: stream.code,
-        listener,
-        entry,
+        count: table::count(table),
+        port: port_shown(table, p),
+        stream: stream_at(table, p, place),
     }
 }

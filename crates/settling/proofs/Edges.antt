@@ -16,7 +16,7 @@ use Rattle.model.specs.State.{Settings, Domain, no_domain, Address, Own, no_own,
 use Rattle.model.specs.Registrations.{change_addresses, change_domains, macs, owning}
 use Rattle.model.specs.Settling.{expire_domain, outlasts, remain_addresses, domains_of, any_supports, is_edge, flag_of, decide_own, decide_owns}
 use Rattle.model.specs.Table.{address_numbers, to_own, own_octets, encode, decode}
-use Rattle.model.specs.Laid.{Ascending, FitAddresses, FitOwn, LaidOwn}
+use Rattle.model.specs.Laid.{Ascending, FitAddresses, FitOwn, LaidOwn, Laid}
 use Rattle.model.proofs.Lists.{all_get_or, all_replicate, all-tabulate}
 use Rattle.model.proofs.AdvanceKeepsForm.{length-tabulate, fewer-addresses, macs-remain}
 use Rattle.model.proofs.Owns.{own-length, own-fit-back}
@@ -186,6 +186,13 @@ module _ (st : Settings) (now : ℕ) (l : List Own) (a : All FitOwn l) where
   pub decisions-fit : All FitOwn (decide_owns st now l)
   unfolding decide_owns
   decisions-fit = all-tabulate FitOwn 8 0 (decide_own st now l) decision-fits
+
+-- what is decided at each place, from what the table was
+abbrev pub decision : List ℕ → ℕ → ℕ → Own
+decision t time = decide_own (decode t).settings time (decode t).owns
+
+pub decided-fits : (t : List ℕ) → Laid t → (time p : ℕ) → FitOwn (decision t time p)
+decided-fits t l time = decision-fits (decode t).settings time (decode t).owns (laid-fits t l).owns
 
 pub decisions-eight : (st : Settings) (now : ℕ) (l : List Own) → length (decide_owns st now l) ≡ 8
 unfolding decide_owns

@@ -7,14 +7,14 @@ use native.Mathlib.Omega.{arith}
 use lib.ListN.{length, get_or, set, take, drop, length-set}
 use lib.Seq.{ext_get_or, get_or-set_same, get_or-set_other}
 use lib.Dec.{eqb}
-use borrow.Author.Tests.{eq-eqb, ne_eqb, eqb-true, eqb-false}
+use borrow.Author.Tests.{eqb-true, eqb-false}
 use Rattle.octets.specs.Be.{be}
 use Rattle.octets.specs.Parts.{patch}
 use Rattle.octets.specs.Fields.{Fit, width}
 use Rattle.octets.proofs.Fields.{put-field}
 use Rattle.model.specs.Layout.{in_result, result_place, result_size, result_widths}
 use Rattle.model.specs.Lists.{tabulate}
-use Rattle.model.specs.State.{asking_failed, ready, ready_failed, Column, none, advertise, failed, Declared, nothing, tells, Result, Stream, unsettled, cell_at, result_at, stream_at, ready_number}
+use Rattle.model.specs.State.{Ready, asking_failed, ready_failed, Column, none, advertise, failed, Declared, nothing, tells, Result, Stream, unsettled, cell_at, result_at, stream_at, ready_number}
 use Rattle.model.specs.Settling.{Source, nowhere, from, source_of, is_source, registered, passed, same_ready, merge, merge_all}
 use Rattle.model.specs.Table.{column_number, declared_number, result_numbers, result_octets, to_result, encode, decode}
 use Rattle.model.specs.Laid.{FitResult, FitStream, LaidResult}
@@ -24,88 +24,80 @@ use Rattle.model.proofs.Results.{declared-few}
 use Rattle.model.proofs.AdvanceKeepsForm.{length-tabulate}
 use Rattle.model.proofs.ColumnRule.{at_place}
 use Rattle.model.proofs.Fits.{laid-result-is}
+use Rattle.model.specs.Listeners.{ready_of}
+use Rattle.model.specs.declared.listener.Listener.{Listener}
+use Rattle.model.specs.declared.listener.Listener.TheVariants as code
+use Rattle.model.specs.contracts.listener.Listener.{the_type}
+use denote.Enum.Bare.{sameb}
 use Rattle.table.specs.Places.{Stands, StandsOn}
 use Rattle.table.specs.Updates.{resulting, with_stream}
 use Rattle.table.proofs.Fitting.{unsettled-fits}
 use Rattle.table.proofs.ByPlace.{stands_on, stream-fits, stream-same, changed-result-at}
 use Rattle.streams.specs.Answers.{source_port}
-use Rattle.streams.specs.declared.SourceRead.TheVariants.{Nowhere, Port}
-use Rattle.streams.proofs.Sources.{port-bound, port-is}
+use Rattle.std.specs.Prelude.{Some, None}
+use Rattle.streams.proofs.Sources.{port_bound, port-is}
 use Rattle.columns.specs.Stages.{merged_shown, declaring, merged_at, merging}
 
--- Numbers.
+-- What a port passes on, by its column's number.
 
-passed-table : (c : Column) (d : Declared) →
-    declared_number (passed c d) ≡ cond (eqb (column_number c) 0) 0 (cond (eqb (column_number c) 1) (declared_number d) (cond (eqb (declared_number d) 0) 0 1))
-unfolding declared_number ready_number passed column_number
-passed-table none d = refl
-passed-table advertise d = refl
-passed-table (failed b k) nothing = refl
-passed-table (failed b k) (tells asking_failed) = refl
-passed-table (failed b k) (tells ready) = refl
-passed-table (failed b k) (tells ready_failed) = refl
+pub nothing-passes : (c : Column) (d : Declared) → 0 ≡ column_number c → nothing ≡ passed c d
+unfolding column_number passed
+nothing-passes none d e = refl
+nothing-passes advertise d e = absurd (omega arith)
+nothing-passes (failed b k) d e = absurd (omega arith)
 
--- by the numbers m of a column and n of a Listener
-module _ (m n : ℕ) where
-  abbrev Passes : ℕ → Type 0
-  Passes r = (c : Column) (d : Declared) → m ≡ column_number c → n ≡ declared_number d → r ≡ declared_number (passed c d)
+pub advertise-passes : (c : Column) (d : Declared) → 1 ≡ column_number c → d ≡ passed c d
+unfolding column_number passed
+advertise-passes none d e = absurd (omega arith)
+advertise-passes advertise d e = refl
+advertise-passes (failed b k) d e = absurd (omega arith)
 
-  passed-number : Passes (cond (eqb m 0) 0 (cond (eqb m 1) n (cond (eqb n 0) 0 1)))
-  passed-number c d p q = rw (p, q) (sym (passed-table c d))
+module _ (n : ℕ) (some : n ≡ 0 → ⊥) (fails : n ≡ 1 → ⊥) (c : Column) (e : n ≡ column_number c) where
+  pub unheard-passes : nothing ≡ passed c nothing
+  unfolding column_number passed
+  unheard-passes = go c e
+    where
+      go : (c : Column) → n ≡ column_number c → nothing ≡ passed c nothing
+      go none e = refl
+      go advertise e = refl
+      go (failed b k) e = refl
 
-  pub none_passes : m ≡ 0 → Passes 0
-  none_passes h = rw (eq-eqb m 0 h) at passed-number
+  pub heard-passes : (r : Ready) → tells asking_failed ≡ passed c (tells r)
+  unfolding column_number passed
+  heard-passes r = go c e
+    where
+      go : (c : Column) → n ≡ column_number c → tells asking_failed ≡ passed c (tells r)
+      go none e = absurd (some e)
+      go advertise e = absurd (fails e)
+      go (failed b k) e = refl
 
-  module _ (some : m ≡ 0 → ⊥) where
-    pub advertise-passes : m ≡ 1 → Passes n
-    advertise-passes h = rw (ne_eqb m 0 some, eq-eqb m 1 h) at passed-number
+pub ruleset passes = (nothing-passes, advertise-passes, unheard-passes, heard-passes)
 
-    module _ (fails : m ≡ 1 → ⊥) where
-      pub unheard-passes : n ≡ 0 → Passes 0
-      unheard-passes h = rw (ne_eqb m 0 some, ne_eqb m 1 fails, eq-eqb n 0 h) at passed-number
+-- Two Listeners merged.
 
-      pub heard-passes : (n ≡ 0 → ⊥) → Passes 1
-      heard-passes h = rw (ne_eqb m 0 some, ne_eqb m 1 fails, ne_eqb n 0 h) at passed-number
+module _ (r q : Listener) where
+  both-merged : merge (tells (ready_of r)) (tells (ready_of q)) ≡ cond (sameb the_type r q) (tells (ready_of r)) (tells ready_failed)
+  unfolding merge same_ready ready_number
+  both-merged = go r q
+    where
+      go : (r q : Listener) → cond (same_ready (ready_of r) (ready_of q)) (tells (ready_of r)) (tells ready_failed) ≡ cond (sameb the_type r q) (tells (ready_of r)) (tells ready_failed)
+      go code.AskingFailed code.AskingFailed = refl
+      go code.AskingFailed code.Ready = refl
+      go code.AskingFailed code.ReadyFailed = refl
+      go code.Ready code.AskingFailed = refl
+      go code.Ready code.Ready = refl
+      go code.Ready code.ReadyFailed = refl
+      go code.ReadyFailed code.AskingFailed = refl
+      go code.ReadyFailed code.Ready = refl
+      go code.ReadyFailed code.ReadyFailed = refl
 
-merge-table : (d e : Declared) → declared_number (merge d e) ≡
-    cond (eqb (declared_number d) 0) (declared_number e)
-    (cond (eqb (declared_number e) 0) (declared_number d) (cond (eqb (declared_number d) (declared_number e)) (declared_number d) 3))
-unfolding declared_number ready_number merge same_ready
-merge-table nothing e = refl
-merge-table (tells asking_failed) nothing = refl
-merge-table (tells asking_failed) (tells asking_failed) = refl
-merge-table (tells asking_failed) (tells ready) = refl
-merge-table (tells asking_failed) (tells ready_failed) = refl
-merge-table (tells ready) nothing = refl
-merge-table (tells ready) (tells asking_failed) = refl
-merge-table (tells ready) (tells ready) = refl
-merge-table (tells ready) (tells ready_failed) = refl
-merge-table (tells ready_failed) nothing = refl
-merge-table (tells ready_failed) (tells asking_failed) = refl
-merge-table (tells ready_failed) (tells ready) = refl
-merge-table (tells ready_failed) (tells ready_failed) = refl
+  pub merge-alike : sameb the_type r q ≡ true → tells (ready_of r) ≡ merge (tells (ready_of r)) (tells (ready_of q))
+  merge-alike e = sym (rw e at both-merged)
 
--- by the numbers m and n of two Listeners
-module _ (m n : ℕ) where
-  abbrev Merges : ℕ → Type 0
-  Merges r = (d e : Declared) → m ≡ declared_number d → n ≡ declared_number e → r ≡ declared_number (merge d e)
+  pub merge-unlike : sameb the_type r q ≡ false → tells ready_failed ≡ merge (tells (ready_of r)) (tells (ready_of q))
+  merge-unlike e = sym (rw e at both-merged)
 
-  merge-number : Merges (cond (eqb m 0) n (cond (eqb n 0) m (cond (eqb m n) m 3)))
-  merge-number d e p q = rw (p, q) (sym (merge-table d e))
-
-  pub merge-none-first : m ≡ 0 → Merges n
-  merge-none-first h = rw (eq-eqb m 0 h) at merge-number
-
-  module _ (first : m ≡ 0 → ⊥) where
-    pub merge-none-second : n ≡ 0 → Merges m
-    merge-none-second h = rw (ne_eqb m 0 first, eq-eqb n 0 h) at merge-number
-
-    module _ (second : n ≡ 0 → ⊥) where
-      pub merge-alike : m ≡ n → Merges m
-      merge-alike h = rw (ne_eqb m 0 first, ne_eqb n 0 second, eq-eqb m n h) at merge-number
-
-      pub merge-unlike : (m ≡ n → ⊥) → Merges 3
-      merge-unlike h = rw (ne_eqb m 0 first, ne_eqb n 0 second, ne_eqb m n h) at merge-number
+pub ruleset merges = (merge-alike, merge-unlike)
 
 -- The places from 8 down: what is merged of those from p on.
 
@@ -115,8 +107,8 @@ passed_from x q = passed (result_at x q).column (registered (cell_at x q))
 unfoldable pub merged_from : Stream → ℕ → Declared
 merged_from x p = merge_all (tabulate (8 - p) p (passed_from x))
 
-pub merged-none : (x : Stream) → 0 ≡ declared_number (merged_from x 8)
-unfolding merged_from tabulate merge_all declared_number
+pub merged-none : (x : Stream) → nothing ≡ merged_from x 8
+unfolding merged_from tabulate merge_all
 merged-none x = refl
 
 pub merged-more : (x : Stream) (p q : ℕ) → p ≡ suc q → p ≤ 8 → merge (passed_from x q) (merged_from x p) ≡ merged_from x q
@@ -131,13 +123,12 @@ merged-all x = refl
 
 -- The declared Listener's octet.
 
-pub declaring-octets : (s : List ℕ) → LaidResult s → (n : ℕ) (d : Declared) → n ≡ declared_number d → patch in_result.declared 1 (be 1 n) s ≡ result_octets (declaring d (to_result s))
-unfolding result_octets result_numbers width
-declaring-octets s l n d e =
+pub declaring-octets : (s : List ℕ) → LaidResult s → (d : Declared) → patch in_result.declared 1 (be 1 (declared_number d)) s ≡ result_octets (declaring d (to_result s))
+unfolding result_octets result_numbers width declaring
+declaring-octets s l d =
     let r = to_result s in
-    ap (patch in_result.declared 1 (be 1 n)) (laid-result-is s l)
-    ∙ put-field result_widths (result_numbers r) 6 n refl
-    ∙ rw e (unfold declaring in refl)
+    ap (patch in_result.declared 1 (be 1 (declared_number d))) (laid-result-is s l)
+    ∙ put-field result_widths (result_numbers r) 6 (declared_number d) refl
 
 -- The stream with the merged Listener at its Talker port.
 
@@ -209,12 +200,12 @@ module _ (x : Stream) (w : FitStream x) where
 
 -- What a stream is left as: without a Talker port as it was, else with the result there declaring the merged Listener.
 
-source-nowhere : (r : Source) → source_port r ≡ Nowhere → r ≡ nowhere
+source-nowhere : (r : Source) → source_port r ≡ None → r ≡ nowhere
 unfolding source_port
 source-nowhere nowhere e = refl
 source-nowhere (from o) e = let z : ◌≡◌ {A = ℕ} 0 1 = cc in absurd (omega arith)
 
-source-port : (r : Source) (t : ℕ) → source_port r ≡ Port t → (q : ℕ) → is_source r q ≡ eqb t q
+source-port : (r : Source) (t : ℕ) → source_port r ≡ Some t → (q : ℕ) → is_source r q ≡ eqb t q
 unfolding source_port is_source
 source-port nowhere t e q = let z : ◌≡◌ {A = ℕ} 0 1 = cc in absurd (omega arith)
 source-port (from o) t e q = let z : o.port ≡ t = cc in rw z
@@ -223,14 +214,14 @@ module _ {t : List ℕ} {k : ℕ} (s : Stands t k) where
   abbrev x : Stream
   x = stream_at k (decode t)
 
-  pub left_alone : source_port (source_of x) ≡ Nowhere → t ≡ encode (with_stream k (merging x) (decode t))
+  pub left_alone : source_port (source_of x) ≡ None → t ≡ encode (with_stream k (merging x) (decode t))
   left_alone e =
       stream-same s
       ∙ ap (λ (y : Stream). encode (with_stream k y (decode t))) (sym (merging-nowhere x (stream-fits s) (source-nowhere (source_of x) e)))
 
-  module _ (p : ℕ) (e : source_port (source_of x) ≡ Port p) where
+  module _ (p : ℕ) (e : source_port (source_of x) ≡ Some p) where
     pub talker-on : StandsOn t k p
-    talker-on = stands_on s p (omega (arith, port-is (source_of x) p e, port-bound x (stream-fits s).eight_cells))
+    talker-on = stands_on s p (omega (arith, port-is (source_of x) p e, port_bound x (stream-fits s).eight_cells))
 
     pub left-merged : (a : ℕ) → a ≡ result_place k p → (y : List ℕ)
         → y ≡ result_octets (declaring (merged_shown x) (to_result (take (a + result_size - a) (drop a t))))

@@ -1,19 +1,21 @@
 -- Removal: every number of a bridge still fits its field, and what the code leaves of a table is that bridge.
 use mathlib.Core.Path.{◌≡◌, refl, ◌∙◌, ap}
 use mathlib.Core.List.{List, [], ◌∷◌, map}
-use Prim.Native.Nat.{ℕ, ◌^◌, ◌<◌}
+use Prim.Native.Nat.{ℕ, ◌+◌, ◌^◌, ◌<◌}
 use lib.ListN.{replicate, length-map}
 use Rattle.model.specs.Lists.{All}
-use Rattle.model.specs.State.{Settings, Cell, Stream, Bridge, no_totals}
-use Rattle.model.specs.Registrations.{change, holding, owning}
+use Rattle.model.specs.State.{Settings, Cell, Stream, Bridge, no_totals, stream_at}
+use Rattle.model.specs.Registrations.{at, change, holding, owning}
 use Rattle.model.specs.Settling.{expire_cell, expire, remain, decide_owns}
 use Rattle.model.specs.Table.{encode, decode}
 use Rattle.model.specs.Laid.{FitCell, FitStream, FitBridge, Laid}
 use Rattle.model.proofs.Fits.{laid-fits}
 use Rattle.cells.proofs.Keeps.{expire-fits}
-use Rattle.table.specs.Updates.{clocked, totalled}
+use Rattle.table.specs.Places.{Stands, StandsOn}
+use Rattle.table.specs.Updates.{clocked, totalled, with_cell}
 use Rattle.table.proofs.Fitting.{map-fits, clocked-fits, cleared-fits, owning-fits}
-use Rattle.table.proofs.ByPlace.{encoded-laid, encoded-read}
+use Rattle.table.proofs.ByPlace.{encoded-laid, encoded-read, stands_on, stream-fits}
+use Rattle.table.proofs.EachStream.{partly_at, partly_at-stands, one-turn-more, cells_to, cells-next, cells-id, cells_fit}
 use Rattle.settling.specs.Removed.{removed}
 use Rattle.settling.proofs.Edges.{decisions-fit, decisions-eight}
 
@@ -24,9 +26,9 @@ module _ (st : Settings) (time : ℕ) where
   unfolding change expire
   expire-cells x = refl
 
-  cells_fit : (l : List Cell) → All FitCell l → All FitCell (map (expire_cell st time) l)
-  cells_fit [] a = tt
-  cells_fit (c ∷ l) a = (expire-fits st time c a.0, cells_fit l a.1)
+  all_cells_fit : (l : List Cell) → All FitCell l → All FitCell (map (expire_cell st time) l)
+  all_cells_fit [] a = tt
+  all_cells_fit (c ∷ l) a = (expire-fits st time c a.0, all_cells_fit l a.1)
 
   pub expired-fits : (x : Stream) → FitStream x → FitStream (expire st time x)
   unfolding expire
@@ -34,7 +36,7 @@ module _ (st : Settings) (time : ℕ) where
     name = w.name;
     rank = w.rank;
     eight_cells = length-map x.cells (expire_cell st time) ∙ w.eight_cells;
-    cells = cells_fit x.cells w.cells;
+    cells = all_cells_fit x.cells w.cells;
     eight_results = w.eight_results;
     results = w.results;
     eight_sends = w.eight_sends;
@@ -44,6 +46,25 @@ module _ (st : Settings) (time : ℕ) where
   pub same_id : (x : Stream) → (expire st time x).id ≡ x.id
   unfolding expire
   same_id x = refl
+
+-- What a turn does to a cell; after p turns stream k is still there, and fits.
+
+abbrev pub lapses : List ℕ → ℕ → Cell → Cell
+lapses t time = expire_cell (decode t).settings time
+
+module _ {t₀ : List ℕ} {k : ℕ} (s : Stands t₀ k) (time p : ℕ) where
+  turns-fit : FitStream (cells_to (lapses t₀ time) p (stream_at k (decode t₀)))
+  turns-fit = cells_fit (lapses t₀ time) (expire-fits (decode t₀).settings time) p (stream_at k (decode t₀)) (stream-fits s)
+
+  module _ (t : List ℕ) (e : t ≡ encode (partly_at (cells_to (lapses t₀ time)) t₀ k p)) where
+    pub lapses-here : p < 8 → StandsOn t k p
+    lapses-here =
+        stands_on (partly_at-stands (cells_to (lapses t₀ time)) s p t e turns-fit (cells-id (lapses t₀ time) p (stream_at k (decode t₀)))) p
+
+    pub lapses-next : (y : List ℕ) → y ≡ encode (with_cell k p (lapses t₀ time) (decode t)) → y ≡ encode (partly_at (cells_to (lapses t₀ time)) t₀ k (p + 1))
+    lapses-next =
+        one-turn-more (cells_to (lapses t₀ time)) s p t e turns-fit (cells-id (lapses t₀ time) p (stream_at k (decode t₀)))
+        (change (at p (lapses t₀ time)) (λ m. m)) (cells-next (lapses t₀ time) p (stream_at k (decode t₀)))
 
 -- The whole.
 

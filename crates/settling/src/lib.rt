@@ -7,19 +7,21 @@
 ghost use Rattle.std.specs.Prelude.{◌≡◌, map, cond, ◌<◌, length};
 ghost use Rattle.model.specs.Layout.{failed_size, own_size, result_size};
 ghost use Rattle.model.specs.Lists.{tabulate};
-ghost use Rattle.model.specs.State.{Settings, Column, Declared, stream_at, result_at, is_port, own_at};
+ghost use Rattle.model.specs.State.{Settings, Column, stream_at, result_at, is_port, own_at};
 ghost use Rattle.model.specs.Registrations.{holding, owning, sending};
 ghost use Rattle.model.specs.Settling as model;
-ghost use Rattle.model.specs.Table.{column_number, declared_number, to_result, result_octets, to_own, own_octets, encode, decode};
+ghost use Rattle.model.specs.Listeners.{declared_of};
+ghost use Rattle.model.specs.Table.{column_number, to_result, result_octets, to_own, own_octets, encode, decode};
 ghost use Rattle.model.specs.Laid.{LaidResult, LaidOwn, Laid};
 ghost use Rattle.table.specs.Places.{Stands, StandsOn, PortIn};
 ghost use Rattle.table.specs.Updates.{with_stream, with_sends, with_own, with_sender};
-ghost use Rattle.streams.specs.Answers.{class_shown};
+ghost use Rattle.streams.specs.Answers.{named};
 ghost use Rattle.columns.specs.Stages as stages;
 ghost use Rattle.declaring.specs.Octets.{offered_octets, timed};
 ghost use Rattle.settling.specs.Removed.{unmatched_of, expired_own, flagged_own, removed};
 
-use streams::{ClassRead, SourceRead};
+use model::listener::{self, Listener};
+use streams::Class;
 
 // The octets of a Talker Failed's values, which are those of an Advertise and a failure.
 const VALUES: usize = table::sends::CODE + 1;
@@ -30,62 +32,55 @@ fn expire_stream(table: &mut [u8], k: usize, leave: u32, time: u32)
     ensures { table.new ≡ encode (with_stream k (model.expire (decode table.old).settings time
         (stream_at k (decode table.old))) (decode table.old)) }
 {
-    let mut p: usize = 0;
-    while p < 8 {
+    for p in 0..8 {
         let a = table::cell_in(table, k, p);
         cells::expire(&mut table[a..a + table::CELL], leave, time);
-        p += 1;
     }
 }
 
 // The same on each stream.
+// Each loop over streams or places is three lines: one over a closure that changes the table would be no shorter.
 fn expire_all(table: &mut [u8], time: u32)
     requires { Laid table.old }
     ensures { table.new ≡ encode (holding (decode table.old)
         (map (model.expire (decode table.old).settings time) (decode table.old).streams)) }
 {
-    let held = table::count(table);
     let leave = table::leave_time(table);
-    let mut k: usize = 0;
-    while k < held {
+    for k in 0..table::count(table) {
         expire_stream(table, k, leave, time);
-        k += 1;
     }
 }
 
 // Whether some port of the bridge supports a class.
-fn any_supports(table: &[u8], class: ClassRead) -> bool
+fn any_supports(table: &[u8], class: Class) -> bool
     requires { Laid table.now }
-    ensures { result ≡ model.any_supports (class_shown class) (decode table.now).settings.ports }
+    ensures { result ≡ model.any_supports (named class) (decode table.now).settings.ports }
 {
     let ports = table::ports(table);
-    let mut p: usize = 0;
-    while p < ports {
+    for p in 0..ports {
         if columns::supports(table::port_at(table, p), class) {
             return true;
         }
-        p += 1;
     }
     false
 }
 
 // Whether the Domain values of a class on the port at place p are other than the bridge's; class ID 5 stands before 6.
-fn unmatched(table: &[u8], p: usize, class: ClassRead) -> bool
+fn unmatched(table: &[u8], p: usize, class: Class) -> bool
     requires { PortIn table.now p }
-    ensures { result ≡ unmatched_of (decode table.now).settings (class_shown class) (own_at (decode table.now).owns p).domains }
+    ensures { result ≡ unmatched_of (decode table.now).settings (named class) (own_at (decode table.now).owns p).domains }
 {
     let own = table::own_at(table, p);
     match class {
-        ClassRead::NoClass => true,
-        ClassRead::A => domains::unmatched(own, 8, table::priority_a(table)),
-        ClassRead::B => domains::unmatched(own, 0, table::priority_b(table)),
+        Class::A => domains::unmatched(own, 8, table::priority_a(table)),
+        Class::B => domains::unmatched(own, 0, table::priority_b(table)),
     }
 }
 
 // Whether the port at place p is at the edge of a class's domain; a place that is no port is not.
-pub fn flag(table: &[u8], p: usize, class: ClassRead) -> bool
+pub fn flag(table: &[u8], p: usize, class: Class) -> bool
     requires { PortIn table.now p }
-    ensures { result ≡ model.flag_of (decode table.now).settings p (class_shown class) (own_at (decode table.now).owns p).domains }
+    ensures { result ≡ model.flag_of (decode table.now).settings p (named class) (own_at (decode table.now).owns p).domains }
 {
     if table::ports(table) <= p {
         return false;
@@ -96,7 +91,8 @@ pub fn flag(table: &[u8], p: usize, class: ClassRead) -> bool
     any_supports(table, class)
 }
 
-// Removes from what a port holds each Domain value and each address that has been leaving for at least the leave time.
+// Removes from what a port holds each Domain value and each address that has been leaving for at least the leave time. Both times stay
+// numbers of their own: contracts tie one of them to the settings.
 fn expire_held(own: &mut [u8], leave: u32, time: u32)
     requires { LaidOwn own.old × (length own.old ≡ own_size) }
     ensures { (st : Settings) → st.leave_time ≡ leave → own.new ≡ own_octets (expired_own st time (to_own own.old)) }
@@ -121,8 +117,8 @@ fn decide_flags(table: &mut [u8], p: usize)
     ensures { table.new ≡ encode (with_own p (flagged_own (decode table.old).settings p (own_at (decode table.old).owns p))
         (decode table.old)) }
 {
-    let edge_a = flag(table, p, ClassRead::A);
-    let edge_b = flag(table, p, ClassRead::B);
+    let edge_a = flag(table, p, Class::A);
+    let edge_b = flag(table, p, Class::B);
     let a = table::own_in(table, p);
     domains::set_flags(&mut table[a..a + table::OWN], edge_a, edge_b);
 }
@@ -144,10 +140,8 @@ fn decide_owns(table: &mut [u8], time: u32)
         (model.decide_owns (decode table.old).settings time (decode table.old).owns)) }
 {
     let leave = table::leave_time(table);
-    let mut place: usize = 0;
-    while place < 8 {
-        decide_own(table, place, leave, time);
-        place += 1;
+    for p in 0..8 {
+        decide_own(table, p, leave, time);
     }
 }
 
@@ -167,70 +161,60 @@ fn admit_all(table: &mut [u8])
     requires { Laid table.old }
     ensures { table.new ≡ encode (stages.admissions (length (decode table.old).settings.ports) 0 (decode table.old)) }
 {
-    let ports = table::ports(table);
-    let mut p: usize = 0;
-    while p < ports {
-        admission::admit_class(table, p, false);
-        admission::admit_class(table, p, true);
-        p += 1;
+    for p in 0..table::ports(table) {
+        admission::admit_class(table, p, Class::A);
+        admission::admit_class(table, p, Class::B);
     }
 }
 
-// The Listener passed on from a port, by the numbers of its column and of the Listener registered there.
-fn passed_on(column: u8, listener: u8) -> u8
-    ensures { (c : Column) (d : Declared) → column ≡ column_number c → listener ≡ declared_number d → result ≡ declared_number (model.passed c d) }
+// The Listener passed on from a port, by the number of its column and the Listener registered there. The column stays a number: its
+// words are an enum of crate reports, above, and no case here needs one.
+#[tactic(auto, using(crate::proofs::Merging::passes), unfolding(model::specs::Settling::passed))]
+fn passed_on(column: u8, listener: Option<Listener>) -> Option<Listener>
+    ensures { (c : Column) → column ≡ column_number c → declared_of result ≡ model.passed c (declared_of listener) }
 {
-    if column == 0 {
-        return 0;
+    match column {
+        0 => None,
+        1 => listener,
+        _ => listener.map(|_| Listener::AskingFailed),
     }
-    if column == 1 {
-        return listener;
-    }
-    if listener == 0 {
-        return 0;
-    }
-    1
 }
 
 // Two Listeners merged: alike gives itself, none gives the other, any two unlike give Ready Failed.
-fn merge_two(a: u8, b: u8) -> u8
-    ensures { (d e : Declared) → a ≡ declared_number d → b ≡ declared_number e → result ≡ declared_number (model.merge d e) }
+#[tactic(auto, using(crate::proofs::Merging::merges), unfolding(model::specs::Settling::merge))]
+fn merge_two(a: Option<Listener>, b: Option<Listener>) -> Option<Listener>
+    ensures { declared_of result ≡ model.merge (declared_of a) (declared_of b) }
 {
-    if a == 0 {
-        return b;
+    match (a, b) {
+        (None, _) => b,
+        (_, None) => a,
+        (Some(one), Some(other)) if one == other => a,
+        (Some(_), Some(_)) => Some(Listener::ReadyFailed),
     }
-    if b == 0 {
-        return a;
-    }
-    if a == b {
-        return a;
-    }
-    3
 }
 
 // The Listeners of stream k passed on from all ports, merged.
-fn merged(table: &[u8], k: usize) -> u8
+fn merged(table: &[u8], k: usize) -> Option<Listener>
     requires { Stands table.now k }
-    ensures { result ≡ declared_number (stages.merged_shown (stream_at k (decode table.now))) }
+    ensures { declared_of result ≡ stages.merged_shown (stream_at k (decode table.now)) }
 {
-    let mut sum: u8 = 0;
-    let mut p: usize = 8;
-    while 0 < p {
-        p -= 1;
+    let mut sum = None;
+    for p in (0..8).rev() {
         let result = table::result_at(table, k, p);
         let cell = table::cell_at(table, k, p);
-        let passed = passed_on(result[table::result::COLUMN], cell[table::cell::LISTENER]);
-        sum = merge_two(passed, sum);
+        let listener = Listener::from_octet(cell[table::cell::LISTENER]);
+        sum = merge_two(passed_on(result[table::result::COLUMN], listener), sum);
     }
     sum
 }
 
-// The Listener that a result declares, by its number.
-fn set_listener(res: &mut [u8], number: u8)
+// The Listener that a result declares.
+fn set_listener(res: &mut [u8], listener: Option<Listener>)
     requires { LaidResult res.old × (length res.old ≡ result_size) }
-    ensures { (d : Declared) → number ≡ declared_number d → res.new ≡ result_octets (stages.declaring d (to_result res.old)) }
+    ensures { res.new ≡ result_octets (stages.declaring (declared_of listener) (to_result res.old)) }
 {
-    octets::put(res, table::result::DECLARED, 1, number as u64);
+    let octet = listener::octet(listener);
+    octets::put(res, table::result::DECLARED, 1, octet.into());
 }
 
 // The Talker port of stream k declares the merged Listener.
@@ -238,12 +222,12 @@ fn merge_stream(table: &mut [u8], k: usize)
     requires { Stands table.old k }
     ensures { table.new ≡ encode (with_stream k (stages.merging (stream_at k (decode table.old))) (decode table.old)) }
 {
-    let SourceRead::Port(t) = streams::source(table, k) else {
+    let Some(t) = streams::source(table, k) else {
         return;
     };
-    let number = merged(table, k);
+    let listener = merged(table, k);
     let a = table::result_in(table, k, t);
-    set_listener(&mut table[a..a + table::RESULT], number);
+    set_listener(&mut table[a..a + table::RESULT], listener);
 }
 
 // The same on each stream.
@@ -252,11 +236,8 @@ fn merge_all(table: &mut [u8])
     ensures { table.new ≡ encode (holding (decode table.old)
         (map stages.merging (decode table.old).streams)) }
 {
-    let held = table::count(table);
-    let mut k: usize = 0;
-    while k < held {
+    for k in 0..table::count(table) {
         merge_stream(table, k);
-        k += 1;
     }
 }
 
@@ -277,11 +258,10 @@ fn offer(table: &[u8], k: usize, p: usize, values: &mut [u8])
     ensures { values.new ≡ offered_octets (stream_at k (decode table.now)).settled (result_at (stream_at k (decode table.now)) p) }
 {
     let settled = table::settled_at(table, k);
-    octets::copy(settled, &mut values[0..table::sends::LATENCY]);
+    values[..table::sends::LATENCY].copy_from_slice(settled);
     let result = table::result_at(table, k, p);
-    octets::copy(
+    values[table::sends::LATENCY..VALUES].copy_from_slice(
         &result[table::result::LATENCY..table::result::ENTRY],
-        &mut values[table::sends::LATENCY..VALUES],
     );
 }
 
@@ -320,10 +300,8 @@ fn declare_stream(table: &mut [u8], k: usize)
     requires { Stands table.old k }
     ensures { table.new ≡ encode (with_stream k (model.declare (stream_at k (decode table.old))) (decode table.old)) }
 {
-    let mut p: usize = 0;
-    while p < 8 {
+    for p in 0..8 {
         declare_on(table, k, p);
-        p += 1;
     }
 }
 
@@ -333,11 +311,8 @@ fn declare_all(table: &mut [u8])
     ensures { table.new ≡ encode (holding (decode table.old)
         (map model.declare (decode table.old).streams)) }
 {
-    let held = table::count(table);
-    let mut k: usize = 0;
-    while k < held {
+    for k in 0..table::count(table) {
         declare_stream(table, k);
-        k += 1;
     }
 }
 
@@ -360,10 +335,8 @@ fn time_all(table: &mut [u8], time: u32)
     ensures { table.new ≡ encode (sending (decode table.old)
         (tabulate 8 0 (model.time_sender (decode table.old).settings time (decode table.old).senders))) }
 {
-    let mut place: usize = 0;
-    while place < 8 {
-        time_sender(table, place, time);
-        place += 1;
+    for p in 0..8 {
+        time_sender(table, p, time);
     }
 }
 

@@ -7,7 +7,7 @@ use native.Mathlib.Nat.{add-zero}
 use native.Mathlib.Omega.{arith}
 use lib.ListN.{length, get_or, take, drop, length-drop, drop_of_length-le}
 use lib.Dec.{eqb, ltb}
-use lib.Seq.{drop-drop, get_or-drop, take_all}
+use lib.Seq.{get_or-drop, take_all}
 use borrow.Author.Tests.{ltb-false, lt-ltb, le-ltb, eq-eqb, ne_eqb}
 use Rattle.octets.specs.Be.{be_at}
 use Rattle.octets.specs.Parts.{part}
@@ -16,8 +16,9 @@ use Rattle.octets.proofs.Pick.{pick-keeps}
 use Rattle.octets.proofs.Parts.{length_part}
 use Rattle.model.specs.Table.{ports_field}
 use Rattle.bridge.specs.Promises.{Receives, Advances}
-use Rattle.console.specs.Text.{Put}
-use Rattle.console.proofs.Laws.{put-append}
+use Rattle.console.specs.declared.text.Text.{Text}
+use Rattle.console.specs.Texts.{Puts}
+use Rattle.console.proofs.Texts.{puts-none, puts-append}
 use Rattle.sheets.specs.Lines.{stop_line}
 use Rattle.sheets.specs.Records.{Record, frame, time, stop, frame_of, time_of, record_of, size_of, followed, records_from, records_of, called, answer_text, record_text, table_after, records_text}
 use Rattle.sheets.specs.Promises.{Called, CalledAll}
@@ -155,71 +156,65 @@ text-answer stop number n = absurd (n refl)
 pub rest-whole : (s : List ℕ) (from : ℕ) → take (length s - from) (drop from s) ≡ drop from s
 rest-whole s from = take_all (length s - from) (drop from s) (omega (arith, length-drop from s))
 
--- where the loop over records stands: those from place from on are left, the table began as table₀, and what is printed so far was
--- put behind the first at octets of text₀
-pub record Calling (table₀ records text₀ : List ℕ) (at : ℕ) (table text : List ℕ) (end from : ℕ) : Type 0 where
+-- where the loop over records stands: what is left of them, the table and the text as they began, and what was printed so far
+pub record Calling (table₀ records : List ℕ) (text₀ : Text) (table : List ℕ) (text : Text) (rest : List ℕ) : Type 0 where
   pub fuel : ℕ
-  pub enough : length records ≤ from + fuel
+  pub enough : length rest ≤ fuel
   pub said : List ℕ
-  pub put : Put text₀ at said end text
-  pub text-left : said ++ records_text (records_from fuel (drop from records)) table ≡ records_text (records_of records) table₀
-  pub table-left : table_after (records_from fuel (drop from records)) table ≡ table_after (records_of records) table₀
+  pub put : Puts text₀ said text
+  pub text-left : said ++ records_text (records_from fuel rest) table ≡ records_text (records_of records) table₀
+  pub table-left : table_after (records_from fuel rest) table ≡ table_after (records_of records) table₀
 
 -- before the first record
-pub calling-none : (table records text : List ℕ) (at end : ℕ) → Put text at [] end text → Calling table records text at table text end 0
+pub calling-none : (table records : List ℕ) (text : Text) → Calling table records text table text records
 unfolding records_of
-calling-none table records text at end p = record {
+calling-none table records text = record {
   fuel = length records;
   enough = omega arith;
   said = [];
-  put = p;
+  put = puts-none text;
   text-left = refl;
   table-left = refl;
 }
 
-module _ {table₀ records text₀ table text : List ℕ} {at end from : ℕ} (c : Calling table₀ records text₀ at table text end from) where
+module _ {table₀ records table rest : List ℕ} {text₀ text : Text} (c : Calling table₀ records text₀ table text rest) where
   -- behind the last one
-  pub calling-end : length records ≤ from → CalledAll table₀ records text₀ at end table text
+  pub calling-end : length rest ≡ 0 → CalledAll table₀ records text₀ table text
   unfolding records_text table_after
   calling-end h =
-      let none = records-none c.fuel (drop from records) (omega (arith, length-drop from records)) in
+      let none = records-none c.fuel rest h in
       let said : c.said ≡ records_text (records_of records) table₀ = sym (append-nil c.said) ∙ (rw none at c.text-left) in
       record { table_is = rw none at c.table-left; text_is = rw (← said) c.put }
 
-  module _ (h : from < length records) where
-    left : 0 < length (drop from records)
-    left = omega (arith, length-drop from records)
-
+  module _ (h : 0 < length rest) where
     some : c.fuel ≡ suc (c.fuel - 1)
     some = omega (arith, c.enough)
 
     -- what ends the reading
-    pub calling-stop : {table' text' : List ℕ} {number size end' : ℕ} → Called table (record_of (drop from records)) (length (drop from records)) number size table'
-        → size ≡ 0 → Put text end stop_line end' text' → CalledAll table₀ records text₀ at end' table' text'
+    pub calling-stop : {table' : List ℕ} {text' : Text} {number size : ℕ} → Called table (record_of rest) (length rest) number size table' → size ≡ 0
+        → Puts text stop_line text' → CalledAll table₀ records text₀ table' text'
     unfolding records_text table_after record_text called
     calling-stop d e p =
-        let is = only-stop (record_of (drop from records)) (sym d.size_is ∙ e) in
-        let last : records_from c.fuel (drop from records) ≡ stop ∷ [] = ap (λ (f : ℕ). records_from f (drop from records)) some ∙ records-stop (c.fuel - 1) (drop from records) left is in
+        let is = only-stop (record_of rest) (sym d.size_is ∙ e) in
+        let last : records_from c.fuel rest ≡ stop ∷ [] = ap (λ (f : ℕ). records_from f rest) some ∙ records-stop (c.fuel - 1) rest h is in
         let text : c.said ++ stop_line ≡ records_text (records_of records) table₀ = ap (λ (l : List ℕ). c.said ++ l) (sym (append-nil stop_line)) ∙ (rw last at c.text-left) in
-        record { table_is = d.table_is ∙ rw is (rw last at c.table-left); text_is = rw (← text) (put-append c.put p) }
+        record { table_is = d.table_is ∙ rw is (rw last at c.table-left); text_is = rw (← text) (puts-append c.put p) }
 
     -- a record, and its line
-    pub calling-more : {table' text' : List ℕ} {number size end' : ℕ} → Called table (record_of (drop from records)) (length (drop from records)) number size table'
-        → (size ≡ 0 → ⊥) → Put text end (answer_text number) end' text' → Calling table₀ records text₀ at table' text' end' (from + size)
+    pub calling-more : {table' : List ℕ} {text' : Text} {number size : ℕ} → Called table (record_of rest) (length rest) number size table' → (size ≡ 0 → ⊥)
+        → Puts text (answer_text number) text' → Calling table₀ records text₀ table' text' (drop size rest)
     unfolding records_text table_after
     calling-more {number = number} {size = size} d n p =
-        let r = record_of (drop from records) in
+        let r = record_of rest in
         let one : size_of r ≡ 0 → ⊥ = λ e. n (d.size_is ∙ e) in
-        let rest : drop (size_of r) (drop from records) ≡ drop (from + size) records = rw (← d.size_is) (drop-drop size from records) in
-        let more : records_from c.fuel (drop from records) ≡ r ∷ records_from (c.fuel - 1) (drop (from + size) records) =
-        ap (λ (f : ℕ). records_from f (drop from records)) some
-        ∙ records-more (c.fuel - 1) (drop from records) left r refl one
-        ∙ ap (λ (s : List ℕ). r ∷ records_from (c.fuel - 1) s) rest in
+        let behind : drop (size_of r) rest ≡ drop size rest = rw (← d.size_is) refl in
+        let more : records_from c.fuel rest ≡ r ∷ records_from (c.fuel - 1) (drop size rest) =
+        ap (λ (f : ℕ). records_from f rest) some ∙ records-more (c.fuel - 1) rest h r refl one ∙ ap (λ (s : List ℕ). r ∷ records_from (c.fuel - 1) s) behind in
         record {
           fuel = c.fuel - 1;
-          enough = omega (arith, c.enough, d.size_is);
+          enough = omega (arith, c.enough, length-drop size rest, d.within);
           said = c.said ++ answer_text number;
-          put = put-append c.put p;
+          put = puts-append c.put p;
           text-left =
               append_assoc c.said (answer_text number) _
               ∙ ap (λ (l : List ℕ). c.said ++ l) (rw (d.number_is, d.table_is, ← (text-answer r (called r table).number one)))

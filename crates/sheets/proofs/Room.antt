@@ -16,7 +16,7 @@ use Rattle.model.specs.Reports.{ColumnWord, none_word, advertise_word, failed_wo
 use Rattle.model.specs.Table.{ports_field}
 use Rattle.model.specs.Calls.{report_on}
 use Rattle.console.specs.Text.{decimal_in}
-use Rattle.console.specs.Words.{column_text, listener_text, entry_text, talker_text, shown_text}
+use Rattle.console.specs.Words.{column_text, listener_text, entry_text, shown_text}
 use Rattle.console.proofs.Laws.{put_whole}
 use Rattle.sheets.specs.Lines.{class_text, classes_text, port_text, port_line, stream_text, stream_line, refused_line, stop_line}
 use Rattle.sheets.specs.Records.{Record, frame, time, stop, record_of, size_of, records_from, records_of, called, answer_text, record_text, table_after, records_text, settings_length}
@@ -70,8 +70,8 @@ port-short p r =
     simp length-append
     (omega (arith, length-decimal 20 p, length-decimal 20 r.total_a, length-decimal 20 r.limit_a, length-decimal 20 r.total_b, length-decimal 20 r.limit_b))
 
-shown-short : (r : Report) → length (shown_text r) ≤ 51
-unfolding shown_text talker_text
+shown-short : (r : Report) → length (shown_text r.column r.code r.listener r.entry) ≤ 51
+unfolding shown_text
 shown-short r =
     simp length-append
     (omega (arith, column-short r.column, length-decimal 20 r.code, listener-short r.listener, entry-short r.entry))

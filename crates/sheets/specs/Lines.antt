@@ -28,7 +28,7 @@ unfoldable pub stream_text : ℕ → ℕ → List ℕ
 stream_text id p = last_digits 16 16 id ++ spaced p
 
 unfoldable pub stream_line : ℕ → Report → List ℕ
-stream_line p r = stream_text r.id p ++ (shown_text r ++ line_end)
+stream_line p r = stream_text r.id p ++ (shown_text r.column r.code r.listener r.entry ++ line_end)
 
 -- "It prints `refused N` for a refused call"
 unfoldable pub refused_line : ℕ → List ℕ

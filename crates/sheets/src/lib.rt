@@ -3,14 +3,19 @@
 #![tactic(auto)]
 
 ghost use Rattle.std.specs.Prelude.{◌≡◌, ◌≤◌, length};
-ghost use Rattle.console.specs.Text.{Put};
+ghost use Rattle.console.specs.Texts.{Puts};
 ghost use Rattle.model.specs.Layout.{table_length};
+ghost use Rattle.model.specs.Numbers.{answer_number};
 ghost use Rattle.model.specs.Table.{ports_field};
 ghost use Rattle.model.specs.Calls.{report_on};
 ghost use Rattle.sheets.specs.Lines.{class_text, classes_text, port_text, port_line, stream_text, stream_line, refused_line, stop_line};
 ghost use Rattle.sheets.specs.Records.{settings_length, frame_of, time_of, record_of, answer_text};
 ghost use Rattle.sheets.specs.Sheet.{port_lines, stream_on_ports, stream_lines, report_lines, text_octets};
-ghost use Rattle.sheets.specs.Promises.{Called, CalledAll, Printed};
+ghost use Rattle.sheets.specs.Promises.{Took, CalledAll, Printed};
+
+use console::Text;
+use model::refusal::Refusal;
+use reports::{ClassShown, PortShown};
 
 // Octets of a text: no sheet of an input of 65,536 octets is longer.
 pub const TEXT: usize = 16 * 65536;
@@ -30,93 +35,81 @@ pub fn blank_table() -> [u8; bridge::TABLE]
 }
 
 // A class in the line of a port: its name, what is reserved and the limit.
-fn put_class(text: &mut [u8], at: usize, name: &[u8], total: u64, limit: u64) -> usize
-    ensures { Put text.old at (class_text name.now total limit) result text.new }
+fn put_class(text: &mut Text<'_>, name: &[u8], class: ClassShown)
+    ensures { Puts text.old (class_text name.now class.total class.limit) text.new }
 {
-    let a = console::put(text, at, name);
-    let b = console::put_decimal(text, a, total);
-    let c = console::put(text, b, b"/");
-    console::put_decimal(text, c, limit)
+    text.put(name);
+    text.put_decimal(class.total);
+    text.put(b"/");
+    text.put_decimal(class.limit);
 }
 
 // Both classes of a port, and the line's end.
-fn put_classes(
-    text: &mut [u8],
-    at: usize,
-    total_a: u64,
-    limit_a: u64,
-    total_b: u64,
-    limit_b: u64,
-) -> usize
-    ensures { Put text.old at (classes_text total_a limit_a total_b limit_b) result text.new }
+fn put_classes(text: &mut Text<'_>, port: PortShown)
+    ensures { Puts text.old (classes_text port.a.total port.a.limit port.b.total port.b.limit) text.new }
 {
-    let a = put_class(text, at, b" A ", total_a, limit_a);
-    let b = put_class(text, a, b" B ", total_b, limit_b);
-    console::put(text, b, b"\n")
+    put_class(text, b" A ", port.a);
+    put_class(text, b" B ", port.b);
+    text.put(b"\n");
 }
 
-fn put_port_number(text: &mut [u8], at: usize, port: u32) -> usize
-    ensures { Put text.old at (port_text port) result text.new }
+fn put_port_number(text: &mut Text<'_>, port: u32)
+    ensures { Puts text.old (port_text port) text.new }
 {
-    let a = console::put(text, at, b"port");
-    console::put_number(text, a, port as u64)
+    text.put(b"port");
+    text.put_number(port as u64);
 }
 
 // The line of a port, by its report.
-pub fn put_port(text: &mut [u8], at: usize, table: &[u8], port: u32) -> usize
-    ensures { Put text.old at (port_line port (report_on table.now port 0)) result text.new }
+pub fn put_port(text: &mut Text<'_>, table: &[u8], port: u32)
+    ensures { Puts text.old (port_line port (report_on table.now port 0)) text.new }
 {
-    let answer = bridge::report(table, port, 0);
-    let a = put_port_number(text, at, port);
-    put_classes(
-        text,
-        a,
-        answer.total_a,
-        answer.limit_a,
-        answer.total_b,
-        answer.limit_b,
-    )
+    let report = bridge::report(table, port, 0).unwrap_or_default();
+    put_port_number(text, port);
+    put_classes(text, report.port);
 }
 
-fn put_stream_number(text: &mut [u8], at: usize, id: u64, port: u32) -> usize
-    ensures { Put text.old at (stream_text id port) result text.new }
+fn put_stream_number(text: &mut Text<'_>, id: u64, port: u32)
+    ensures { Puts text.old (stream_text id port) text.new }
 {
-    let a = console::put_id(text, at, id);
-    console::put_number(text, a, port as u64)
+    text.put_id(id);
+    text.put_number(port as u64);
 }
 
 // The line of the stream at a place on a port, by its report.
-pub fn put_stream(text: &mut [u8], at: usize, table: &[u8], port: u32, place: u32) -> usize
-    ensures { Put text.old at (stream_line port (report_on table.now port place)) result text.new }
+pub fn put_stream(text: &mut Text<'_>, table: &[u8], port: u32, place: u32)
+    ensures { Puts text.old (stream_line port (report_on table.now port place)) text.new }
 {
-    let answer = bridge::report(table, port, place);
-    let a = put_stream_number(text, at, answer.id, port);
-    let b = console::put_shown(text, a, answer);
-    console::put(text, b, b"\n")
+    let stream = bridge::report(table, port, place)
+        .unwrap_or_default()
+        .stream;
+    put_stream_number(text, stream.id, port);
+    console::put_shown(text, stream);
+    text.put(b"\n");
 }
 
-fn put_refused(text: &mut [u8], at: usize, number: u8) -> usize
-    ensures { Put text.old at (refused_line number) result text.new }
+fn put_refused(text: &mut Text<'_>, number: u8)
+    ensures { Puts text.old (refused_line number) text.new }
 {
-    let a = console::put(text, at, b"refused");
-    let b = console::put_number(text, a, number as u64);
-    console::put(text, b, b"\n")
+    text.put(b"refused");
+    text.put_number(number as u64);
+    text.put(b"\n");
 }
 
 // The line of a call that was refused; nothing for one that was not.
-pub fn put_answer(text: &mut [u8], at: usize, number: u8) -> usize
-    ensures { Put text.old at (answer_text number) result text.new }
+pub fn put_answer(text: &mut Text<'_>, answer: Result<(), Refusal>)
+    ensures { Puts text.old (answer_text (answer_number answer)) text.new }
 {
-    if number == bridge::ACCEPTED {
-        return console::put(text, at, b"");
+    if let Err(refusal) = answer {
+        put_refused(text, u8::from(refusal));
     }
-    put_refused(text, at, number)
 }
 
-pub fn put_stop(text: &mut [u8], at: usize) -> usize
-    ensures { Put text.old at stop_line result text.new }
+#[tactic(auto, unfolding(crate::specs::Lines::stop_line))]
+pub fn put_stop(text: &mut Text<'_>)
+    ensures { Puts text.old stop_line text.new }
 {
-    console::put(text, at, b"stop\n")
+    text.put(b"stop\n");
 }
 
 // The settings' ports field, 0 where they end before it.
@@ -134,151 +127,124 @@ pub fn settings_length(input: &[u8]) -> usize
     ensures { (result ≡ settings_length input.now) × (result ≤ length input.now) }
 {
     let asked = bridge::SETTINGS + bridge::PORT_SETTINGS * ports_field(input) as usize;
-    console::least(asked, input.len())
+    asked.min(input.len())
 }
 
-// What a record did: the number given back and the record's octets, 0 where it ends the reading.
+// What a record did: the call's answer, and the record's octets.
 #[derive(Clone, Copy)]
 pub struct Done {
-    pub number: u8,
+    pub answer: Result<(), Refusal>,
     pub size: usize,
 }
 
-fn stopped() -> Done
-    ensures { (result.number ≡ 0) × (result.size ≡ 0) }
-{
-    Done {
-        number: bridge::ACCEPTED,
-        size: 0,
-    }
-}
-
-// The record of a PDU: port in the first octet, 16-bit length, octets.
-fn receive(table: &mut [u8], rest: &[u8]) -> Done
-    ensures { Called table.old (frame_of rest.now) (length rest.now) result.number result.size table.new }
+// The record of a PDU: port in the first octet, 16-bit length, octets. None where it is cut.
+fn receive(table: &mut [u8], rest: &[u8]) -> Option<Done>
+    ensures { Took table.old (frame_of rest.now) (length rest.now) result table.new }
 {
     if rest.len() < 3 {
-        return stopped();
+        return None;
     }
     let size = 3 + octets::get(rest, 1, 2) as usize;
     if rest.len() < size {
-        return stopped();
+        return None;
     }
     let port = (rest[0] % 16) as u32;
-    let number = bridge::receive(table, port, &rest[3..size]);
-    Done { number, size }
+    let answer = bridge::receive(table, port, &rest[3..size]);
+    Some(Done { answer, size })
 }
 
-// The record of a time: 32 bits behind the first octet.
-fn advance(table: &mut [u8], rest: &[u8]) -> Done
-    ensures { Called table.old (time_of rest.now) (length rest.now) result.number result.size table.new }
+// The record of a time: 32 bits behind the first octet. None where it is cut.
+fn advance(table: &mut [u8], rest: &[u8]) -> Option<Done>
+    ensures { Took table.old (time_of rest.now) (length rest.now) result table.new }
 {
     if rest.len() < 5 {
-        return stopped();
+        return None;
     }
     let time = octets::get(rest, 1, 4) as u32;
-    let number = bridge::advance(table, time);
-    Done { number, size: 5 }
+    let answer = bridge::advance(table, time);
+    Some(Done { answer, size: 5 })
 }
 
-// Makes the call of the record in front.
-fn call(table: &mut [u8], rest: &[u8]) -> Done
+// Makes the call of the record in front. None where that ends the reading.
+fn call(table: &mut [u8], rest: &[u8]) -> Option<Done>
     requires { 1 ≤ length rest.now }
-    ensures { Called table.old (record_of rest.now) (length rest.now) result.number result.size table.new }
+    ensures { Took table.old (record_of rest.now) (length rest.now) result table.new }
 {
-    let first = rest[0];
-    if first / 16 == 1 {
-        return receive(table, rest);
+    match rest[0] {
+        0x10..=0x1F => receive(table, rest),
+        0x20 => advance(table, rest),
+        _ => None,
     }
-    if first == 0x20 {
-        return advance(table, rest);
-    }
-    stopped()
 }
 
 // Makes the calls of the records one after another, and puts the lines of those that are refused, and of what ends the reading.
-pub fn call_all(table: &mut [u8], records: &[u8], text: &mut [u8], at: usize) -> usize
-    ensures { CalledAll table.old records.now text.old at result table.new text.new }
+pub fn call_all(table: &mut [u8], records: &[u8], text: &mut Text<'_>)
+    ensures { CalledAll table.old records.now text.old table.new text.new }
 {
-    let mut end = console::least(at, text.len());
-    let mut from: usize = 0;
-    while from < records.len() {
-        let done = call(table, &records[from..]);
-        if done.size == 0 {
-            return put_stop(text, end);
-        }
-        end = put_answer(text, end, done.number);
-        from += done.size;
+    let mut rest = records;
+    while !rest.is_empty() {
+        let Some(done) = call(table, rest) else {
+            return put_stop(text);
+        };
+        put_answer(text, done.answer);
+        rest = &rest[done.size..];
     }
-    end
 }
 
 // The lines of all ports.
-pub fn put_ports(text: &mut [u8], at: usize, table: &[u8], ports: u32) -> usize
-    ensures { Put text.old at (port_lines table.now ports) result text.new }
+// The three loops stay apart, a line each: one of all would take a closure over the text and two parameters more.
+pub fn put_ports(text: &mut Text<'_>, table: &[u8], ports: u32)
+    ensures { Puts text.old (port_lines table.now ports) text.new }
 {
-    let mut end = console::least(at, text.len());
-    let mut p: u32 = 0;
-    while p < ports {
-        end = put_port(text, end, table, p + 1);
-        p += 1;
+    for p in 0..ports {
+        put_port(text, table, p + 1);
     }
-    end
 }
 
 // The lines of the stream at a place, one for each port.
-fn put_stream_on_ports(text: &mut [u8], at: usize, table: &[u8], ports: u32, place: u32) -> usize
-    ensures { Put text.old at (stream_on_ports table.now ports place) result text.new }
+fn put_stream_on_ports(text: &mut Text<'_>, table: &[u8], ports: u32, place: u32)
+    ensures { Puts text.old (stream_on_ports table.now ports place) text.new }
 {
-    let mut end = console::least(at, text.len());
-    let mut p: u32 = 0;
-    while p < ports {
-        end = put_stream(text, end, table, p + 1, place);
-        p += 1;
+    for p in 0..ports {
+        put_stream(text, table, p + 1, place);
     }
-    end
 }
 
 // The streams that a bridge holds.
 fn stream_count(table: &[u8]) -> u32
     ensures { result ≡ (report_on table.now 1 0).count }
 {
-    let answer = bridge::report(table, 1, 0);
-    answer.count as u32
+    bridge::report(table, 1, 0).unwrap_or_default().count as u32
 }
 
 // The lines of all streams.
-pub fn put_streams(text: &mut [u8], at: usize, table: &[u8], ports: u32) -> usize
-    ensures { Put text.old at (stream_lines table.now ports) result text.new }
+pub fn put_streams(text: &mut Text<'_>, table: &[u8], ports: u32)
+    ensures { Puts text.old (stream_lines table.now ports) text.new }
 {
-    let streams = stream_count(table);
-    let mut end = console::least(at, text.len());
-    let mut place: u32 = 0;
-    while place < streams {
-        end = put_stream_on_ports(text, end, table, ports, place);
-        place += 1;
+    for place in 0..stream_count(table) {
+        put_stream_on_ports(text, table, ports, place);
     }
-    end
 }
 
 // The lines of all ports, then those of all streams.
-pub fn put_report(text: &mut [u8], at: usize, table: &[u8], ports: u32) -> usize
-    ensures { Put text.old at (report_lines table.now ports) result text.new }
+pub fn put_report(text: &mut Text<'_>, table: &[u8], ports: u32)
+    ensures { Puts text.old (report_lines table.now ports) text.new }
 {
-    let a = put_ports(text, at, table, ports);
-    put_streams(text, a, table, ports)
+    put_ports(text, table, ports);
+    put_streams(text, table, ports);
 }
 
-// The sheet of an input, by calls on a table.
-pub fn put_sheet(table: &mut [u8], input: &[u8], text: &mut [u8]) -> usize
-    ensures { Printed table.old input.now text.old result table.new text.new }
+// The sheet of an input, by calls on a table, put into octets: where it ends.
+pub fn put_sheet(table: &mut [u8], input: &[u8], octets: &mut [u8]) -> usize
+    ensures { Printed table.old input.now octets.old result table.new octets.new }
 {
-    let n = settings_length(input);
-    let number = bridge::start(table, &input[0..n]);
-    if number != bridge::ACCEPTED {
-        return put_stop(text, 0);
+    let mut text = Text::new(octets);
+    let (settings, records) = input.split_at(settings_length(input));
+    if bridge::start(table, settings).is_err() {
+        put_stop(&mut text);
+        return text.len();
     }
-    let ports = ports_field(input);
-    let a = call_all(table, &input[n..], text, 0);
-    put_report(text, a, table, ports)
+    call_all(table, records, &mut text);
+    put_report(&mut text, table, ports_field(input));
+    text.len()
 }

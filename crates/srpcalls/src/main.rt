@@ -2,10 +2,12 @@
 // records are most significant octet first. The table is zeros at the beginning, so calls before a start are answered with 12.
 #![tactic(auto)]
 
-ghost use Rattle.std.specs.Prelude.{◌≤◌, length, ◌≡◌};
+ghost use Rattle.std.specs.Prelude.{◌≤◌, length, ◌≡◌, IfOk};
 ghost use Rattle.model.specs.Layout.{table_length};
 ghost use Rattle.srpcalls.specs.Room.{room_octets, space_octets};
 
+use console::Text;
+use model::refusal::{self, Refusal};
 use std::io::Read;
 
 // The room for the table.
@@ -18,11 +20,9 @@ const LONGEST: usize = 4096;
 // and no octets that are handed over.
 const SPACE: usize = 256 + 2 * ROOM;
 
-// What follows a record: the next one; the same with so many octets lent; `stop`; or the end of the run.
+// How a run ends: with `stop`, at a cut record or an octet that begins none; or without a word, where input or output ends.
 #[derive(Drop)]
-enum Step {
-    Next,
-    Lend(usize),
+enum Ending {
     Stop,
     End,
 }
@@ -40,165 +40,151 @@ fn blank_space() -> [u8; SPACE]
     [0; SPACE]
 }
 
-// Fills a field from the input; false where the input ends before. A read that fails counts as the end.
-fn read(rt: &HostRuntime, field: &mut [u8]) -> bool {
-    rt.stdin().read_exact(field).is_ok()
+// Fills octets from the input, all of them. A read that fails counts as the end of the input.
+fn fill(rt: &HostRuntime, octets: &mut [u8]) -> Result<(), Ending> {
+    rt.stdin().read_exact(octets).map_err(|_| Ending::Stop)
 }
 
-// Ends the line and writes it. One that cannot be written ends the run.
-fn print(rt: &HostRuntime, line: &mut [u8], at: usize) -> Step {
-    let end = console::put(line, at, b"\n");
-    if rt.write_all(&line[0..end]).is_ok() {
-        return Step::Next;
-    }
-    Step::End
+// A field of a record.
+fn field<const N: usize>(rt: &HostRuntime) -> Result<[u8; N], Ending> {
+    let mut octets = [0u8; N];
+    fill(rt, &mut octets)?;
+    Ok(octets)
+}
+
+// A field of 16 bits.
+fn short(rt: &HostRuntime) -> Result<u16, Ending> {
+    Ok(u16::from_be_bytes(field(rt)?))
+}
+
+// Ends the line and writes it.
+fn print(rt: &HostRuntime, line: &mut Text<'_>) -> Result<(), Ending> {
+    line.put(b"\n");
+    rt.write_all(line.octets()).map_err(|_| Ending::End)
 }
 
 // Prints the line of a call that answers with a number alone.
-fn print_number(rt: &HostRuntime, space: &mut [u8], call: &[u8], number: u8) -> Step {
-    let at = answers::put_numbers(space, 0, call, &[number as u64]);
-    print(rt, space, at)
+fn print_number(
+    rt: &HostRuntime,
+    space: &mut [u8],
+    call: &[u8],
+    answer: Result<(), Refusal>,
+) -> Result<(), Ending> {
+    let mut line = Text::new(space);
+    answers::put_numbers(&mut line, call, &[refusal::number(answer) as u64]);
+    print(rt, &mut line)
 }
 
 // A call that is handed octets in the space: settings, or a PDU of MSRP or of MMRP that arrived on a port.
-fn call_handed(rt: &HostRuntime, table: &mut [u8], kind: u8, space: &mut [u8], n: usize) -> Step
+// The space comes whole with a length, since the line of the answer is put into it as well.
+fn call_handed(
+    rt: &HostRuntime,
+    table: &mut [u8],
+    kind: u8,
+    space: &mut [u8],
+    n: usize,
+) -> Result<(), Ending>
     requires { n ≤ length space.old }
 {
     let port = (kind % 16) as u32;
     match kind {
         0x00 => {
-            let number = bridge::start(table, &space[0..n]);
-            print_number(rt, space, b"start", number)
+            let answer = bridge::start(table, &space[..n]);
+            print_number(rt, space, b"start", answer)
         }
         0x10..=0x1F => {
-            let number = bridge::receive(table, port, &space[0..n]);
-            print_number(rt, space, b"receive", number)
+            let answer = bridge::receive(table, port, &space[..n]);
+            print_number(rt, space, b"receive", answer)
         }
         _ => {
-            let number = bridge::receive_mmrp(table, port, &space[0..n]);
-            print_number(rt, space, b"mmrp", number)
+            let answer = bridge::receive_mmrp(table, port, &space[..n]);
+            print_number(rt, space, b"mmrp", answer)
         }
     }
 }
 
 // Reads a length and so many octets, all of them, and hands over no more than the longest.
-fn hand(rt: &HostRuntime, table: &mut [u8], kind: u8, space: &mut [u8]) -> Step
+fn hand(rt: &HostRuntime, table: &mut [u8], kind: u8, space: &mut [u8]) -> Result<(), Ending>
     requires { 65535 ≤ length space.old }
 {
-    let mut field = [0u8; 2];
-    if read(rt, &mut field) {
-        let n = octets::get(&field, 0, 2) as usize;
-        if read(rt, &mut space[0..n]) {
-            return call_handed(rt, table, kind, space, console::least(n, LONGEST));
-        }
-    }
-    Step::Stop
+    let n = short(rt)? as usize;
+    fill(rt, &mut space[..n])?;
+    call_handed(rt, table, kind, space, n.min(LONGEST))
 }
 
-fn advance(rt: &HostRuntime, table: &mut [u8], space: &mut [u8]) -> Step {
-    let mut field = [0u8; 4];
-    if read(rt, &mut field) {
-        let time = octets::get(&field, 0, 4) as u32;
-        return print_number(rt, space, b"advance", bridge::advance(table, time));
-    }
-    Step::Stop
+fn advance(rt: &HostRuntime, table: &mut [u8], space: &mut [u8]) -> Result<(), Ending> {
+    let time = u32::from_be_bytes(field(rt)?);
+    let answer = bridge::advance(table, time);
+    print_number(rt, space, b"advance", answer)
 }
 
 // A write to a filled buffer of the length asked for, and its line.
-fn put_write(table: &mut [u8], port: u32, place: u32, asked: usize, space: &mut [u8]) -> usize {
-    let n = console::least(asked, answers::BUFFER);
+fn write(rt: &HostRuntime, table: &mut [u8], port: u32, space: &mut [u8]) -> Result<(), Ending> {
+    let place = short(rt)? as u32;
+    let asked = short(rt)? as usize;
     let mut filled = answers::filled();
-    let buffer = &mut filled[0..n];
-    let wrote = bridge::write(table, port, place, buffer);
-    answers::put_written(space, wrote, buffer)
+    let buffer = &mut filled[..asked.min(answers::BUFFER)];
+    let answer = bridge::write(table, port, place, buffer);
+    let mut line = Text::new(space);
+    answers::put_written(&mut line, answer, buffer);
+    print(rt, &mut line)
 }
 
-fn write(rt: &HostRuntime, table: &mut [u8], port: u32, space: &mut [u8]) -> Step {
-    let mut field = [0u8; 4];
-    if read(rt, &mut field) {
-        let place = octets::get(&field, 0, 2) as u32;
-        let asked = octets::get(&field, 2, 2) as usize;
-        let at = put_write(table, port, place, asked, space);
-        return print(rt, space, at);
-    }
-    Step::Stop
-}
-
-fn report(rt: &HostRuntime, table: &[u8], port: u32, space: &mut [u8]) -> Step {
-    let mut field = [0u8; 2];
-    if read(rt, &mut field) {
-        let place = octets::get(&field, 0, 2) as u32;
-        let at = answers::put_reported(space, bridge::report(table, port, place));
-        return print(rt, space, at);
-    }
-    Step::Stop
+fn report(rt: &HostRuntime, table: &[u8], port: u32, space: &mut [u8]) -> Result<(), Ending> {
+    let place = short(rt)? as u32;
+    let mut line = Text::new(space);
+    answers::put_reported(&mut line, bridge::report(table, port, place));
+    print(rt, &mut line)
 }
 
 // A why with a filled buffer of the length asked for, and its line.
-fn put_why(table: &[u8], id: u64, port: u32, asked: usize, space: &mut [u8]) -> usize {
-    let n = console::least(asked, answers::BUFFER);
+fn explain(rt: &HostRuntime, table: &[u8], port: u32, space: &mut [u8]) -> Result<(), Ending> {
+    let id = u64::from_be_bytes(field(rt)?);
+    let asked = short(rt)? as usize;
     let mut filled = answers::filled();
-    let buffer = &mut filled[0..n];
+    let buffer = &mut filled[..asked.min(answers::BUFFER)];
     let answer = bridge::why(table, id, port, buffer);
-    answers::put_explained(space, answer, buffer)
-}
-
-fn explain(rt: &HostRuntime, table: &[u8], port: u32, space: &mut [u8]) -> Step {
-    let mut field = [0u8; 10];
-    if read(rt, &mut field) {
-        let id = octets::get(&field, 0, 8);
-        let asked = octets::get(&field, 8, 2) as usize;
-        let at = put_why(table, id, port, asked, space);
-        return print(rt, space, at);
-    }
-    Step::Stop
+    let mut line = Text::new(space);
+    answers::put_explained(&mut line, answer, buffer);
+    print(rt, &mut line)
 }
 
 // Stores an octet in the table's room; past it nothing happens.
-fn store(rt: &HostRuntime, room: &mut [u8]) -> Step {
-    let mut field = [0u8; 3];
-    if read(rt, &mut field) {
-        let at = octets::get(&field, 0, 2) as usize;
-        if at < room.len() {
-            room[at] = field[2];
-        }
-        return Step::Next;
+fn store(rt: &HostRuntime, room: &mut [u8]) -> Result<(), Ending> {
+    let at = short(rt)? as usize;
+    let [octet] = field::<1>(rt)?;
+    if at < room.len() {
+        room[at] = octet;
     }
-    Step::Stop
+    Ok(())
 }
 
-fn lend(rt: &HostRuntime) -> Step {
-    let mut field = [0u8; 2];
-    if read(rt, &mut field) {
-        return Step::Lend(octets::get(&field, 0, 2) as usize);
-    }
-    Step::Stop
+fn print_sum(rt: &HostRuntime, table: &[u8], space: &mut [u8]) -> Result<(), Ending> {
+    let mut line = Text::new(space);
+    answers::put_sum(&mut line, table);
+    print(rt, &mut line)
 }
 
-fn print_sum(rt: &HostRuntime, table: &[u8], space: &mut [u8]) -> Step {
-    let at = answers::put_sum(space, table);
-    print(rt, space, at)
-}
-
-fn print_octets(rt: &HostRuntime, table: &[u8], space: &mut [u8]) -> Step {
-    let at = answers::put_octets(space, b"octets", table);
-    print(rt, space, at)
+fn print_octets(rt: &HostRuntime, table: &[u8], space: &mut [u8]) -> Result<(), Ending> {
+    let mut line = Text::new(space);
+    answers::put_octets(&mut line, b"octets", table);
+    print(rt, &mut line)
 }
 
 // A record that only looks at the table.
-fn look(rt: &HostRuntime, table: &[u8], kind: u8, space: &mut [u8]) -> Step {
+fn look(rt: &HostRuntime, table: &[u8], kind: u8, space: &mut [u8]) -> Result<(), Ending> {
     let port = (kind % 16) as u32;
     match kind {
         0x40..=0x4F => report(rt, table, port, space),
         0x60 => print_sum(rt, table, space),
         0x61 => print_octets(rt, table, space),
         0x80..=0x8F => explain(rt, table, port, space),
-        _ => Step::Stop,
+        _ => Err(Ending::Stop),
     }
 }
 
 // A record of the octets that calls are lent. The low digit of its first octet is the port.
-fn call(rt: &HostRuntime, table: &mut [u8], kind: u8, space: &mut [u8]) -> Step
+fn call(rt: &HostRuntime, table: &mut [u8], kind: u8, space: &mut [u8]) -> Result<(), Ending>
     requires { 65535 ≤ length space.old }
 {
     match kind {
@@ -209,43 +195,43 @@ fn call(rt: &HostRuntime, table: &mut [u8], kind: u8, space: &mut [u8]) -> Step
     }
 }
 
-// Reads a record and does what it says.
-fn take_record(rt: &HostRuntime, room: &mut [u8], lent: usize, space: &mut [u8]) -> Step
+// Reads a record and does what it says: how many octets of the room calls are lent from then on.
+// The room comes whole with a length: octets are stored past what is lent, and more may be lent again.
+fn take_record(
+    rt: &HostRuntime,
+    room: &mut [u8],
+    lent: usize,
+    space: &mut [u8],
+) -> Result<usize, Ending>
     requires { (lent ≤ length room.old) × (65535 ≤ length space.old) }
+    ensures { IfOk result (λ n. n ≤ length room.new) }
 {
-    let mut field = [0u8; 1];
-    if read(rt, &mut field) {
-        let kind = field[0];
-        return match kind {
-            0x50 => store(rt, room),
-            0x51 => lend(rt),
-            _ => call(rt, &mut room[0..lent], kind, space),
-        };
+    let [kind] = field::<1>(rt).map_err(|_| Ending::End)?;
+    match kind {
+        0x50 => store(rt, room)?,
+        0x51 => return Ok((short(rt)? as usize).min(room.len())),
+        _ => call(rt, &mut room[..lent], kind, space)?,
     }
-    Step::End
+    Ok(lent)
 }
 
-// A proved loop has to end, and nothing says that an input does. So the loop counts its turns down, from a number that no run
-// uses up.
+// A proved loop has to end, and nothing says that an input does. So the loop counts its turns, to a number that no run reaches.
 fn run(rt: &HostRuntime, room: &mut [u8], space: &mut [u8])
     requires { (table_length ≤ length room.old) × (65535 ≤ length space.old) }
 {
     let mut lent = bridge::TABLE;
-    let mut turns = u64::MAX;
-    while turns > 0 {
-        turns -= 1;
-        let next = take_record(rt, room, lent, space);
-        match next {
-            Step::Next => {}
-            Step::Lend(n) => {
-                lent = console::least(n, room.len());
+    for _ in 0..u64::MAX {
+        match take_record(rt, room, lent, space) {
+            Ok(n) => {
+                lent = n;
             }
-            Step::Stop => {
-                let at = console::put(space, 0, b"stop");
-                print(rt, space, at);
+            Err(Ending::Stop) => {
+                let mut line = Text::new(space);
+                line.put(b"stop");
+                let _ = print(rt, &mut line);
                 return;
             }
-            Step::End => {
+            Err(Ending::End) => {
                 return;
             }
         }

@@ -1,5 +1,5 @@
 -- A stream's demand, in the numbers that the code reads and multiplies.
-use mathlib.Core.Path.{◌≡◌, sym, ◌∙◌}
+use mathlib.Core.Path.{◌≡◌, refl, sym, ◌∙◌}
 use mathlib.Core.List.{List}
 use mathlib.Core.Bool.{cond}
 use Prim.Native.Nat.{ℕ, ◌+◌, ◌*◌, ◌/◌, ◌%◌, ◌≤◌, ◌<◌}
@@ -11,10 +11,13 @@ use Rattle.octets.specs.Be.{be_at}
 use Rattle.octets.specs.Fields.{fields}
 use Rattle.model.specs.Layout.{before, fixed_widths, in_port}
 use Rattle.model.specs.Lists.{is_one}
-use Rattle.model.specs.Bandwidth.{demand}
+use Rattle.model.specs.Bandwidth.{demand, rate, rate_of, rate_of_a, rate_of_b}
 use Rattle.model.specs.Table.{port_from, to_port}
 use Rattle.table.specs.Reads.{to_fixed}
 use Rattle.model.specs.WrittenFrames.{fixed_from}
+use Rattle.streams.specs.declared.Class.{Class}
+use Rattle.streams.specs.declared.Class.TheVariants.{A, B}
+use Rattle.streams.specs.Answers.{named, intervals_of}
 
 -- MaxFrameSize, MaxIntervalFrames, overhead and flags as they are read
 module _ (port fixed : List ℕ) (size frames overhead flags : ℕ)
@@ -37,8 +40,13 @@ once-bound size overhead frames s o n =
     let b : frames ≤ 65535 = omega arith in
     mul-le-mul a b
 
--- the bits of a demand in a second, of at most 8,000 intervals
-pub bits-bound : (d intervals : ℕ) → d < 17179869184 → intervals ≤ 8000 → d * 8 * intervals ≤ 137438953472 * 8000
-bits-bound d intervals h i =
+-- the bits of a demand in a second
+pub rate_is : (c : Class) (d : ℕ) → d * 8 * intervals_of c ≡ (rate_of (named c) record { octets = d }).bits
+unfolding intervals_of named rate_of rate_of_a rate_of_b rate
+rate_is A d = refl
+rate_is B d = refl
+
+pub bits_bound : (d intervals : ℕ) → d < 17179869184 → intervals ≤ 8000 → d * 8 * intervals ≤ 137438953472 * 8000
+bits_bound d intervals h i =
     let a : d * 8 ≤ 137438953472 = omega arith in
     mul-le-mul a i

@@ -6,15 +6,18 @@ use native.Mathlib.Omega.{arith}
 use lib.ListN.{length, get_or, drop}
 use lib.Seq.{drop-cons, drop-length}
 use borrow.Author.Tests.{eq-eqb, ne_eqb}
+use Rattle.std.specs.Prelude.{Option, Some, unwrap_or}
 use Rattle.octets.specs.Be.{be_at}
 use Rattle.octets.specs.Fields.{fields}
 use Rattle.model.specs.Layout.{cell_widths}
 use Rattle.model.specs.State.{Registration, Talker, no_talker, talker, Cell, Stream, empty, cell_at}
 use Rattle.model.specs.Settling.{Origin, Source, nowhere, from, source, source_of}
-use Rattle.model.specs.Table.{to_cell, cell_from, registration_from, talker_from}
+use Rattle.model.specs.Table.{decode, to_cell, cell_from, registration_from, talker_from}
 use Rattle.model.proofs.SettingsOctets.{octet-field}
+use Rattle.table.specs.Updates.{stream_at}
+use Rattle.table.specs.Places as places
+use Rattle.table.proofs.ByPlace.{stream-fits}
 use Rattle.streams.specs.Answers.{source_port, talker_port, source_in}
-use Rattle.streams.specs.declared.SourceRead.TheVariants.{Nowhere, Port}
 
 -- The Talker that a cell's octets say.
 
@@ -39,7 +42,7 @@ module _ (x : Stream) (l : length x.cells ≡ 8) where
     from-here =
         ap (source p) (drop-cons x.cells p empty (omega (arith, l))) ∙ ap (λ (c : Cell). source p (c ∷ drop (suc p) x.cells)) (sym e)
 
-    pub source-here : (get_or s 0 0 ≡ 0 → ⊥) → Port p ≡ source_port (source p (drop p x.cells))
+    pub source-here : (get_or s 0 0 ≡ 0 → ⊥) → Some p ≡ source_port (source p (drop p x.cells))
     unfolding source source_port
     source-here n = sym (ap source_port from-here ∙ rw (a-talker s n))
 
@@ -101,7 +104,7 @@ stands p (c ∷ cs) o e = go c.talks refl (stands (suc p) cs o)
 
 module _ (x : Stream) where
   by-source : (r : Source) → source_of x ≡ r → source_of x ≡ source_in (talker_port r) (cell_at x (talker_port r))
-  unfolding source_of cell_at talker_port
+  unfolding source_of cell_at source_port
   by-source nowhere e = e ∙ sym (nowhere-in 0 x.cells e 0 0)
   by-source (from o) e =
       let z : o.port - 0 ≡ o.port = omega arith in
@@ -111,20 +114,17 @@ module _ (x : Stream) where
   pub source-at : source_of x ≡ source_in (talker_port (source_of x)) (cell_at x (talker_port (source_of x)))
   source-at = by-source (source_of x) refl
 
-  pub port-bound : length x.cells ≡ 8 → talker_port (source_of x) < 8
-  unfolding source_of talker_port
-  port-bound l = go (source_of x) refl
+  pub port_bound : length x.cells ≡ 8 → talker_port (source_of x) < 8
+  unfolding source_of source_port
+  port_bound l = go (source_of x) refl
     where
       go : (r : Source) → source 0 x.cells ≡ r → talker_port r < 8
       go nowhere e = omega arith
       go (from o) e = omega (arith, (stands 0 x.cells o e).within)
 
-pub port-is : (r : Source) (t : ℕ) → source_port r ≡ Port t → t ≡ talker_port r
-unfolding source_port talker_port
-port-is nowhere t e = let z : ◌≡◌ {A = ℕ} 0 1 = cc in absurd (omega arith)
-port-is (from o) t e = cc
+-- a stream that is held has eight ports
+pub port_below : (t : List ℕ) (k : ℕ) → places.Stands t k → talker_port (source_of (stream_at k (decode t))) < 8
+port_below t k s = port_bound (stream_at k (decode t)) (stream-fits s).eight_cells
 
-pub port-nowhere : (r : Source) → source_port r ≡ Nowhere → 0 ≡ talker_port r
-unfolding source_port talker_port
-port-nowhere nowhere e = refl
-port-nowhere (from o) e = let z : ◌≡◌ {A = ℕ} 0 1 = cc in absurd (omega arith)
+pub port-is : (r : Source) (t : ℕ) → source_port r ≡ Some t → t ≡ talker_port r
+port-is r t e = sym (ap (λ (o : Option ℕ). unwrap_or o 0) e)

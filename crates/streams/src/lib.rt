@@ -5,13 +5,14 @@ ghost use Rattle.std.specs.Prelude.{◌≡◌, ◌≤◌, ◌<◌, ◌^◌, leng
 ghost use Rattle.model.specs.Layout.{fixed_size, port_size};
 ghost use Rattle.model.specs.State.{class_of};
 ghost use Rattle.model.specs.Bandwidth as bandwidth;
+ghost use Rattle.model.specs.Bandwidth.{rate_of};
 ghost use Rattle.model.specs.Settling.{source_of, fixed_of};
 ghost use Rattle.model.specs.Table.{to_port, decode};
 ghost use Rattle.model.specs.Laid.{Laid};
 ghost use Rattle.table.specs.Updates.{stream_at};
 ghost use Rattle.table.specs.Places.{Stands};
 ghost use Rattle.table.specs.Reads.{to_fixed, ReadsFixed};
-ghost use Rattle.streams.specs.Answers.{class_shown, source_port, talker_port};
+ghost use Rattle.streams.specs.Answers.{named, intervals_of, class_shown, source_port, talker_port};
 
 use table::{cell, port};
 
@@ -45,80 +46,72 @@ pub fn demand(port: &[u8], fixed: &[u8]) -> PerInterval
     }
 }
 
-// One rule for both classes, by the intervals in a second.
-fn rate(intervals: u64, d: PerInterval) -> PerSecond
-    requires { (d.0 < 2 ^ 34) × (intervals ≤ 8000) }
-    ensures { (result.0 ≡ (bandwidth.rate intervals (record { octets = d.0 })).bits) × (result.0 < 2 ^ 50) }
-{
-    PerSecond(d.0 * 8 * intervals)
-}
-
-pub fn rate_of_a(d: PerInterval) -> PerSecond
-    requires { d.0 < 2 ^ 34 }
-    ensures { (result.0 ≡ (bandwidth.rate_of_a (record { octets = d.0 })).bits) × (result.0 < 2 ^ 50) }
-{
-    rate(8000, d)
-}
-
-pub fn rate_of_b(d: PerInterval) -> PerSecond
-    requires { d.0 < 2 ^ 34 }
-    ensures { (result.0 ≡ (bandwidth.rate_of_b (record { octets = d.0 })).bits) × (result.0 < 2 ^ 50) }
-{
-    rate(4000, d)
-}
-
-// The class of a priority.
-#[derive(Clone, Copy)]
-pub enum ClassRead {
-    NoClass,
+// The SR classes.
+#[derive(Clone, Copy, PartialEq, Eq)]
+pub enum Class {
     A,
     B,
 }
 
-pub fn class_of(table: &[u8], priority: u64) -> ClassRead
+impl Class {
+    // The intervals in a second.
+    #[tactic(auto, unfolding(crate::specs::Answers::intervals_of))]
+    fn intervals(self) -> u64
+        ensures { (result ≡ intervals_of self) × (result ≤ 8000) }
+    {
+        match self {
+            Class::A => 8000,
+            Class::B => 4000,
+        }
+    }
+}
+
+// A demand as a rate of a class.
+#[tactic(auto, using(crate::proofs::Demands::rate_is, crate::proofs::Demands::bits_bound))]
+pub fn rate(d: PerInterval, class: Class) -> PerSecond
+    requires { d.0 < 2 ^ 34 }
+    ensures { (result.0 ≡ (rate_of (named class) (record { octets = d.0 })).bits) × (result.0 < 2 ^ 50) }
+{
+    PerSecond(d.0 * 8 * class.intervals())
+}
+
+// The class of a priority; not every priority has one.
+#[tactic(auto, unfolding(crate::specs::Answers::class_shown, crate::specs::Answers::named, model::specs::State::class_of))]
+pub fn class_of(table: &[u8], priority: u64) -> Option<Class>
     requires { Laid table.now }
     ensures { class_shown result ≡ class_of (decode table.now).settings priority }
 {
     if priority == table::priority_a(table) {
-        return ClassRead::A;
+        return Some(Class::A);
     }
     if priority == table::priority_b(table) {
-        return ClassRead::B;
+        return Some(Class::B);
     }
-    ClassRead::NoClass
+    None
 }
 
 // The Talker port of stream k: the lowest place with a Talker registration.
-#[derive(Clone, Copy)]
-pub enum SourceRead {
-    Nowhere,
-    Port(usize),
-}
-
-pub fn source(table: &[u8], k: usize) -> SourceRead
+pub fn source(table: &[u8], k: usize) -> Option<usize>
     requires { Stands table.now k }
     ensures { result ≡ source_port (source_of (stream_at k (decode table.now))) }
 {
-    let mut p: usize = 0;
-    while p < 8 {
+    for p in 0..8 {
         let here = table::cell_at(table, k, p);
         if here[cell::TALKER] != 0 {
-            return SourceRead::Port(p);
+            return Some(p);
         }
-        p += 1;
     }
-    SourceRead::Nowhere
+    None
 }
 
 // The same as a number: 0 where no port has a Talker.
+// A place and no Option: where no port has a Talker, the cell at place 0 has none either, and its readers see that.
+#[tactic(auto, using(crate::proofs::Sources::port_below))]
 pub fn talker_port(table: &[u8], k: usize) -> usize
     requires { Stands table.now k }
     ensures { (result ≡ talker_port (source_of (stream_at k (decode table.now)))) × (result < 8) }
 {
-    match source(table, k) {
-        SourceRead::Port(t) => t,
-        SourceRead::Nowhere => 0,
-    }
+    source(table, k).unwrap_or(0)
 }
 
 // The fixed values that stream k has registered at its Talker port, zeros without one.

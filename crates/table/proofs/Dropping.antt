@@ -29,14 +29,7 @@ use Rattle.table.proofs.Lens.{all-at, patch-between}
 use Rattle.table.proofs.Header.{header, header-records, header-length, count-patch}
 use Rattle.table.proofs.Records.{unused, records-sized}
 
--- A record moved down, or to where it is, which leaves all as it is.
-
-pub kept-moved : (i j : ℕ) (s : List ℕ) → j ≤ i
-    → patch (record_place j) record_size (part (record_place j + (i - j) * record_size) record_size s) s ≡ record_kept i j s
-unfolding record_kept
-kept-moved i j s h =
-    let e : record_place j + (i - j) * record_size ≡ record_place i = omega arith in
-    ap (λ (a : ℕ). patch (record_place j) record_size (part a record_size s) s) e
+-- A record moved to where it is, which leaves all as it is.
 
 pub kept_there : (i j : ℕ) (s : List ℕ) → i ≡ j → s ≡ record_kept i j s
 unfolding record_kept

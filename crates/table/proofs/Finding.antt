@@ -16,7 +16,7 @@ use Rattle.model.specs.Registrations.{ids}
 use Rattle.model.specs.Table.{stream_octets, decode}
 use Rattle.model.specs.Laid.{FitStream, Ascending, Laid}
 use Rattle.model.proofs.Fits.{laid-is, laid-fits}
-use Rattle.table.specs.declared.Found.TheVariants.{At, Gap}
+use Rattle.std.specs.Prelude.{Ok, Err}
 use Rattle.table.specs.Find.{found_at}
 use Rattle.table.proofs.Lens.{all-at}
 use Rattle.table.proofs.Records.{record-part}
@@ -68,11 +68,11 @@ module _ (id : ℕ) (l : List ℕ) (a : Ascending l) (low high middle : ℕ) (b 
 
 -- the three arms of `found_at`
 module _ (id k i : ℕ) (l : List ℕ) where
-  pub found_before : id < i → found_at id k (i ∷ l) ≡ Gap k
+  pub found_before : id < i → found_at id k (i ∷ l) ≡ Err k
   unfolding found_at
   found_before h = rw (lt-ltb id i h)
 
-  pub found_here : id ≡ i → found_at id k (i ∷ l) ≡ At k
+  pub found_here : id ≡ i → found_at id k (i ∷ l) ≡ Ok k
   unfolding found_at
   found_here h = let m : i ≤ id = omega arith in rw (le-ltb id i m, eq-eqb id i h)
 
@@ -81,32 +81,32 @@ module _ (id k i : ℕ) (l : List ℕ) where
   found-past h = let m : i ≤ id = omega arith in let n : id ≡ i → ⊥ = λ e. omega arith in rw (le-ltb id i m, ne_eqb id i n)
 
 -- a place before which all are lower
-pub found-at : (id n k : ℕ) (l : List ℕ) → ((j : ℕ) → j < k → get_or l j 0 < id) → k < length l → get_or l k 0 ≡ id → found_at id n l ≡ At (n + k)
+pub found-at : (id n k : ℕ) (l : List ℕ) → ((j : ℕ) → j < k → get_or l j 0 < id) → k < length l → get_or l k 0 ≡ id → found_at id n l ≡ Ok (n + k)
 found-at id n k [] f h e = absurd (omega arith)
-found-at id n zero (i ∷ l) f h e = found_here id n i l (sym e) ∙ ap At (omega arith)
+found-at id n zero (i ∷ l) f h e = found_here id n i l (sym e) ∙ ap Ok (omega arith)
 found-at id n (suc k) (i ∷ l) f h e =
     found-past id n i l (f 0 (omega arith))
     ∙ found-at id (suc n) k l (λ j p. f (suc j) (omega arith)) (omega arith) e
-    ∙ ap At (omega arith)
+    ∙ ap Ok (omega arith)
 
 pub found-gap : (id n k : ℕ) (l : List ℕ) → ((j : ℕ) → j < k → get_or l j 0 < id) → k ≤ length l → (k < length l → id < get_or l k 0)
-    → found_at id n l ≡ Gap (n + k)
-found-gap id n zero [] f h e = unfold found_at in ap Gap (omega arith)
+    → found_at id n l ≡ Err (n + k)
+found-gap id n zero [] f h e = unfold found_at in ap Err (omega arith)
 found-gap id n (suc k) [] f h e = absurd (omega arith)
-found-gap id n zero (i ∷ l) f h e = found_before id n i l (e (omega arith)) ∙ ap Gap (omega arith)
+found-gap id n zero (i ∷ l) f h e = found_before id n i l (e (omega arith)) ∙ ap Err (omega arith)
 found-gap id n (suc k) (i ∷ l) f h e =
     found-past id n i l (f 0 (omega arith))
     ∙ found-gap id (suc n) k l (λ j p. f (suc j) (omega arith)) (omega arith) (λ p. e (omega arith))
-    ∙ ap Gap (omega arith)
+    ∙ ap Err (omega arith)
 
 -- what halving ends with
-pub between-found : (id : ℕ) (l : List ℕ) → Ascending l → (k : ℕ) → k < length l → get_or l k 0 ≡ id → At k ≡ found_at id 0 l
+pub between-found : (id : ℕ) (l : List ℕ) → Ascending l → (k : ℕ) → k < length l → get_or l k 0 ≡ id → Ok k ≡ found_at id 0 l
 between-found id l a k h e =
-    sym (found-at id 0 k l (λ j p. let q = ascending-less l a j k p h in omega arith) h e ∙ ap At (omega arith))
+    sym (found-at id 0 k l (λ j p. let q = ascending-less l a j k p h in omega arith) h e ∙ ap Ok (omega arith))
 
-pub between_none : (id : ℕ) (l : List ℕ) (low high : ℕ) → Between id l low high → high ≤ low → Gap low ≡ found_at id 0 l
+pub between_none : (id : ℕ) (l : List ℕ) (low high : ℕ) → Between id l low high → high ≤ low → Err low ≡ found_at id 0 l
 between_none id l low high b h =
-    sym (found-gap id 0 low l b.lower (omega (arith, b.within, b.ordered)) (λ p. b.higher low h p) ∙ ap Gap (omega arith))
+    sym (found-gap id 0 low l b.lower (omega (arith, b.within, b.ordered)) (λ p. b.higher low h p) ∙ ap Err (omega arith))
 
 -- the StreamID that a record has
 module _ (t : List ℕ) (l : Laid t) (k a : ℕ) (h : k < length (decode t).streams) (e : a ≡ record_place k) where

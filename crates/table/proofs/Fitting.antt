@@ -19,7 +19,7 @@ use Rattle.model.proofs.Lists.{all_replicate, all_append, all_take, all_drop, al
 use Rattle.model.proofs.Parts.{◌also◌, rising-ascends, ascending-rises}
 use Rattle.model.proofs.AdvanceKeepsForm.{all-dropped, fewer-dropped, dropped-rising}
 use Rattle.model.proofs.FrameOrder.{joined, rising-together}
-use Rattle.table.specs.declared.Found.TheVariants.{Gap}
+use Rattle.std.specs.Prelude.{Err}
 use Rattle.table.specs.Find.{found_at}
 use Rattle.table.specs.Updates.{clocked, totalled, inserted, resulting}
 use Rattle.table.proofs.Places.{at_gap, length-put-in, room-gap}
@@ -145,14 +145,14 @@ map-fits b w g keeps same =
     (subst Ascending (sym (ids-map g same b.streams)) w.ascending)
 
 -- one put in, where it is missing
-ids-put-in : (k id : ℕ) (s : List Stream) → found_at id 0 (ids s) ≡ Gap k → ids (take k s ++ (fresh id ∷ drop k s)) ≡ together (ids s) (id ∷ [])
+ids-put-in : (k id : ℕ) (s : List Stream) → found_at id 0 (ids s) ≡ Err k → ids (take k s ++ (fresh id ∷ drop k s)) ≡ together (ids s) (id ∷ [])
 unfolding together
 ids-put-in k id s f = ap ids (sym (room-gap id k s f)) ∙ joined (λ x. x) (λ x. refl) id s
 
 all-put-in : (k : ℕ) (y : Stream) (s : List Stream) → FitStream y → All FitStream s → All FitStream (take k s ++ (y ∷ drop k s))
 all-put-in k y s f a = all_append FitStream (take k s) (y ∷ drop k s) (all_take FitStream k s a) (f, all_drop FitStream k s a)
 
-pub inserted-fits : (b : Bridge) → FitBridge b → (k id : ℕ) → found_at id 0 (ids b.streams) ≡ Gap k → id < 2 ^ 64 → length b.streams < 64
+pub inserted-fits : (b : Bridge) → FitBridge b → (k id : ℕ) → found_at id 0 (ids b.streams) ≡ Err k → id < 2 ^ 64 → length b.streams < 64
     → FitBridge (inserted k id b)
 inserted-fits b w k id f h few =
     let s = b.streams in

@@ -1,39 +1,14 @@
--- Octets moved up or down: a loop's turn, and what a gap that was made or closed leaves.
-use Prim.Native.Nat.{ℕ, suc, ◌+◌, ◌≤◌, ◌<◌}
+-- Octets moved up or down: what a gap that was made or closed leaves.
+use Prim.Native.Nat.{ℕ, ◌+◌}
 use native.Mathlib.Omega.{arith}
-use native.Mathlib.Numerals.{add-one}
 use mathlib.Core.Path.{◌≡◌, sym, ap, ◌∙◌}
-use mathlib.Core.List.{List, [], ◌∷◌, ◌++◌, append_assoc}
-use lib.ListN.{length, get_or, set, take, drop, length-append, length-drop, take-append-drop}
-use lib.Seq.{drop-drop, drop-set-lt, take-suc-set, take-append-add, length-take-le, drop_at}
+use mathlib.Core.List.{List, ◌++◌, append_assoc}
+use lib.ListN.{length, take, drop, length-append, length-drop, take-append-drop}
+use lib.Seq.{take-append-add, length-take-le, drop_at}
 use Rattle.octets.specs.Parts.{part, patch, zeros}
-use Rattle.octets.proofs.Parts.{part-cons, patch-is}
+use Rattle.octets.proofs.Parts.{patch-is}
 use Rattle.model.proofs.Parts.{part-between}
 use Rattle.table.proofs.Lens.{patch-between}
-
--- a store in front of a part leaves the part
-part-behind-set : (a b m v : ℕ) (s : List ℕ) → a < b → part b m (set s a v) ≡ part b m s
-unfolding part
-part-behind-set a b m v s h = ap (take m) (drop-set-lt b s a v h)
-
--- a turn of a loop that moves the m + 1 octets at b down to a, from their start
-pub move-less : (a b m : ℕ) (s : List ℕ) → a ≤ b → b + m < length s
-    → patch (a + 1) m (part (b + 1) m (set s a (get_or s b 0))) (set s a (get_or s b 0)) ≡ patch a (suc m) (part b (suc m) s) s
-unfolding patch
-move-less a b m s h l =
-    let v = get_or s b 0 in
-    let e : suc a + m ≡ a + suc m = omega arith in
-    rw (
-      part-behind-set a (b + 1) m v s (omega arith),
-      part-cons b m s (omega arith),
-      add-one a,
-      take-suc-set s a v (omega arith),
-      drop-set-lt (suc a) s a v (omega arith),
-      drop-drop m (suc a) s,
-      drop-drop (suc m) a s,
-      e,
-      append_assoc (take a s) (v ∷ []) (part (b + 1) m s ++ drop (a + suc m) s),
-    )
 
 -- n octets moved up by d, and zeros in the room so made
 pub gap-made : (x y z r : List ℕ) (at n d : ℕ) → length x ≡ at → length y ≡ n → length z ≡ d

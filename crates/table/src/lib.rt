@@ -152,6 +152,7 @@ pub fn bridge_id(table: &[u8]) -> u64
 }
 
 // The priorities of class A and class B.
+// Two functions of one line: Class is of crate streams, which stands above this one.
 pub fn priority_a(table: &[u8]) -> u64
     requires { Laid table.now }
     ensures { result ≡ (decode table.now).settings.priority_a }
@@ -191,6 +192,7 @@ pub fn fan_in(table: &[u8]) -> u64
 }
 
 // The settings of the port at place p.
+// Each part has its own function, since its contract says another thing (ReadsPort, ReadsCell, ..): what they share is the slice.
 pub fn port_at(table: &[u8], p: usize) -> &[u8]
     requires { PortIn table.now p }
     ensures { ReadsPort result.now (port_at (decode table.now).settings p) }
@@ -224,6 +226,8 @@ pub fn limit_b(port: &[u8], used: u64) -> u64
     }
     both - used
 }
+
+// What is changed is lent at its address: a function that hands out a `&mut` part of a slice gets no proof of what its caller leaves.
 
 // The address of a port's totals, and the totals.
 pub fn totals_in(table: &[u8], p: usize) -> usize
@@ -383,15 +387,9 @@ pub fn clear_totals(table: &mut [u8])
     octets::clear(table, TOTALS, 8 * TOTAL);
 }
 
-// Where a stream is among the records in use, or where it would stand.
-#[derive(Clone, Copy)]
-pub enum Found {
-    At(usize),
-    Gap(usize),
-}
-
-// The place of a StreamID, by halving.
-pub fn find(table: &[u8], id: u64) -> Found
+// The place of a StreamID among the records in use, or where it would stand, by halving.
+// By hand: the library's binary_search_by_key goes on past a hit, so to find one of 64 it reads 7 records, where this reads 5.1 on average.
+pub fn find(table: &[u8], id: u64) -> Result<usize, usize>
     requires { Laid table.now }
     ensures { result ≡ found_at id 0 (ids (decode table.now).streams) }
 {
@@ -401,7 +399,7 @@ pub fn find(table: &[u8], id: u64) -> Found
         let middle = low + (high - low) / 2;
         let x = octets::get(table, RECORDS + middle * RECORD, 8);
         if x == id {
-            return Found::At(middle);
+            return Ok(middle);
         }
         if x < id {
             low = middle + 1;
@@ -409,31 +407,7 @@ pub fn find(table: &[u8], id: u64) -> Found
             high = middle;
         }
     }
-    Found::Gap(low)
-}
-
-// The n octets from place at on, moved up by d.
-pub fn move_up(s: &mut [u8], at: usize, d: usize, n: usize)
-    requires { at + d + n ≤ length s.old }
-    ensures { s.new ≡ patch (at + d) n (part at n s.old) s.old }
-{
-    let mut i = n;
-    while 0 < i {
-        i -= 1;
-        s[at + d + i] = s[at + i];
-    }
-}
-
-// The n octets from place at on, moved down by d.
-pub fn move_down(s: &mut [u8], at: usize, d: usize, n: usize)
-    requires { at + d + n ≤ length s.old }
-    ensures { s.new ≡ patch at n (part (at + d) n s.old) s.old }
-{
-    let mut i: usize = 0;
-    while i < n {
-        s[at + i] = s[at + d + i];
-        i += 1;
-    }
+    Err(low)
 }
 
 // An empty record for the stream id at place k of n: those from there on move up.
@@ -442,7 +416,7 @@ fn put_record(table: &mut [u8], n: usize, k: usize, id: u64)
     ensures { table.new ≡ record_put n k id table.old }
 {
     let at = RECORDS + k * RECORD;
-    move_up(table, at, RECORD, (n - k) * RECORD);
+    table.copy_within(at..RECORDS + n * RECORD, at + RECORD);
     octets::clear(table, at, RECORD);
     octets::put(table, at, 8, id);
     octets::put(table, COUNT, 1, (n + 1) as u64);
@@ -462,18 +436,8 @@ fn is_registered(rec: &[u8]) -> bool
     requires { length rec.now ≡ record_size }
     ensures { result ≡ held (to_stream rec.now).cells }
 {
-    let mut p: usize = 0;
-    while p < 8 {
-        let a = CELLS + p * CELL;
-        if rec[a] != 0 {
-            return true;
-        }
-        if rec[a + cell::LISTENER] != 0 {
-            return true;
-        }
-        p += 1;
-    }
-    false
+    let (cells, _) = rec[CELLS..RESULTS].as_chunks::<CELL>();
+    cells.iter().any(|held| held[cell::TALKER] != 0 || held[cell::LISTENER] != 0)
 }
 
 // Whether some port sends of it: an Applicant that is not 0.
@@ -481,32 +445,19 @@ fn is_sent(rec: &[u8]) -> bool
     requires { length rec.now ≡ record_size }
     ensures { result ≡ any_sending (to_stream rec.now).sends }
 {
-    let mut p: usize = 0;
-    while p < 8 {
-        let a = ALL_SENDS + p * SENDS;
-        if rec[a] != 0 {
-            return true;
-        }
-        if rec[a + sends::FAILING] != 0 {
-            return true;
-        }
-        if rec[a + sends::LISTENING] != 0 {
-            return true;
-        }
-        p += 1;
-    }
-    false
+    let (ports, _) = rec[ALL_SENDS..RECORD].as_chunks::<SENDS>();
+    ports.iter().any(|sent| {
+        sent[sends::ADVERTISING] != 0 || sent[sends::FAILING] != 0 || sent[sends::LISTENING] != 0
+    })
 }
 
 // Whether the stream is held.
+#[tactic(auto, unfolding(model::specs::Settling::is_held))]
 fn is_held(rec: &[u8]) -> bool
     requires { length rec.now ≡ record_size }
     ensures { result ≡ is_held (to_stream rec.now) }
 {
-    if is_registered(rec) {
-        return true;
-    }
-    is_sent(rec)
+    is_registered(rec) || is_sent(rec)
 }
 
 // The record at place i, moved down to place j.
@@ -515,7 +466,8 @@ fn keep_record(table: &mut [u8], i: usize, j: usize)
     ensures { table.new ≡ record_kept i j table.old }
 {
     if j < i {
-        move_down(table, RECORDS + j * RECORD, (i - j) * RECORD, RECORD);
+        let from = RECORDS + i * RECORD;
+        table.copy_within(from..from + RECORD, RECORDS + j * RECORD);
     }
 }
 

@@ -15,21 +15,21 @@ returns c =
 returns-2 : tie.Need-returns-then-count-eq-MOST_ADDRESSES
 returns-2 c =
     let first = c.before.before.before.before.before in
-    let e = sym c.find.ensures ∙ c.in-Gap.is in
+    let e = sym c.find.ensures ∙ c.in-Err.is in
     (enrolled-full first.args.own.now first.requires.0 first.args.mac _ e (sym c.count.ensures.0 ∙ c.if-count-eq-MOST_ADDRESSES.true), refl)
 
 insert-requires : tie.Need-insert-requires
 insert-requires c κs =
     let first = c.before.before.before.before.before.before in
     let n = c.count.ensures in
-    let r = missing_at _ _ _ (sym c.find.ensures ∙ c.in-Gap.is) in
+    let r = missing_at _ _ _ (sym c.find.ensures ∙ c.in-Err.is) in
     record { laid = first.requires.0; size = first.requires.1; few = search rules; within = r.within }
 
 returns-3 : tie.Need-returns
 returns-3 c =
     let first = c.before.before.before.before.before.before.before.before.before in
     let n = c.count.ensures in
-    let e = sym c.find.ensures ∙ c.in-Gap.is in
+    let e = sym c.find.ensures ∙ c.in-Err.is in
     enrolled-made first.args.own.now first.requires.0 first.args.mac _ e _ (omega arith) c.insert.ensures
 
 pub enrol_spec : {M : Type 1} → statement M

@@ -24,10 +24,10 @@ returns c =
     (sym (((missing_at first.args.mac _ (to_own s).addresses e).lacks f.addresses.ascending).leaves first.args.clock))
 
 -- the address is found at its place
-there : (c : tie.In-At) → HeldAt c.args.mac c.in-At.k (to_own c.args.own.now).addresses
-there c = held_at _ _ _ (sym c.find.ensures ∙ c.in-At.is)
+there : (c : tie.In-Ok) → HeldAt c.args.mac c.in-Ok.k (to_own c.args.own.now).addresses
+there c = held_at _ _ _ (sym c.find.ensures ∙ c.in-Ok.is)
 
-few : (c : tie.In-At) → c.in-At.k < most_addresses
+few : (c : tie.In-Ok) → c.in-Ok.k < most_addresses
 few c =
     let first = c.before.before.before in
     omega (arith, (there c).within, (laid-own-fits first.args.own.now first.requires.0).addresses.at_most_64)

@@ -7,6 +7,6 @@ pub returns-then-kept : goal.returns-then-kept
 unfolding kept_text pick
 returns-then-kept c = rw c.if-kept.true c.put.ensures
 
-pub returns : goal.returns
+pub returns-else-kept : goal.returns-else-kept
 unfolding kept_text pick
-returns c = rw c.if-kept.false c.put-2.ensures
+returns-else-kept c = rw c.if-kept.false c.put-else-kept.ensures

@@ -4,7 +4,7 @@ use mathlib.Core.Bool.{true, false}
 use borrow.Author.Rules.{rules}
 use Rattle.model.specs.State.{Port, port_at, supports}
 use Rattle.model.specs.Table.{decode}
-use Rattle.streams.specs.Answers.{class_shown}
+use Rattle.streams.specs.Answers.{named}
 use Rattle.table.proofs.SenderParts.{lent-sender-at, left-sender-at}
 use Rattle.bridge.specs.Joining.{joined_slot}
 use Rattle.bridge.proofs.Joining.{none-joined, one-joined}
@@ -20,7 +20,7 @@ join-slot-requires c κs =
 returns : tie.Need-returns-then-supports
 returns c =
     let first = c.before.before.before.before.before.before.before.before.before in
-    let k = class_shown first.args.class in
+    let k = named first.args.class in
     let e : supports (port_at (decode first.args.table.now).settings first.args.p) k ≡ true =
     sym (ap (λ (q : Port). supports q k) c.port_at.ensures.is) ∙ sym c.supports.ensures ∙ c.if-supports.true in
     one-joined first.requires.0 first.args.slot _ e _
@@ -29,7 +29,7 @@ returns c =
 returns-2 : tie.Need-returns-else-supports
 returns-2 c =
     let first = c.before.before.before.before in
-    let k = class_shown first.args.class in
+    let k = named first.args.class in
     let e : supports (port_at (decode first.args.table.now).settings first.args.p) k ≡ false =
     sym (ap (λ (q : Port). supports q k) c.port_at.ensures.is) ∙ sym c.supports.ensures ∙ c.if-supports.false in
     none-joined first.requires.0 first.args.slot _ e

@@ -2,7 +2,7 @@
 use native.Mathlib.Omega.{arith}
 use borrow.Author.Rules.{rules}
 use Rattle.model.proofs.Fits.{laid-fits}
-use Rattle.streams.specs.Answers.{class_shown}
+use Rattle.streams.specs.Answers.{named}
 use Rattle.bridge.proofs.Joining.{then-in, both-done}
 use Rattle.bridge.proofs.join_domains.Statement.{statement}
 use Rattle.bridge.proofs.join_domains.Tie as tie
@@ -19,14 +19,14 @@ add-join-class c =
     omega (arith, c.priority_a-a.ensures, w.priority_a)
 
 join-class-requires-2 : tie.Need-join_class-requires-2
-unfolding class_shown
+unfolding named
 join-class-requires-2 c κs =
     let first = c.before.before.before.before.before.before.before.before in
     let w = (laid-fits _ first.requires.laid).settings in
     (then-in first.requires _ _ c.join_class.ensures, omega (arith, c.priority_a-a.ensures, w.priority_a))
 
 returns : tie.Need-returns
-unfolding class_shown
+unfolding named
 returns c =
     let first = c.before.before.before.before.before.before.before.before.before.before.before in
     both-done first.requires _ _ c.join_class.ensures _ c.priority_a-a.ensures c.priority_b-b.ensures _ c.join_class-2.ensures

@@ -1,4 +1,5 @@
 -- `declarations::close_message` meets its contract. Assumes nothing.
+use Rattle.model.specs.Attributes.{type_of}
 use Prim.Native.Nat.{ℕ, ◌+◌, ◌-◌, ◌≤◌}
 use mathlib.Core.Path.{◌∙◌}
 use native.Mathlib.Omega.{arith}
@@ -6,7 +7,6 @@ use borrow.Author.Rules.{rules}
 use lib.ListN.{length}
 use Rattle.octets.specs.Parts.{part}
 use Rattle.octets.proofs.Parts.{length_part}
-use Rattle.declarations.specs.Passes.{type}
 use Rattle.declarations.proofs.Written.{holding-none, holding-put, holding-kept, holding-all, message-is}
 use Rattle.declarations.proofs.close_message.Statement.{statement}
 use Rattle.declarations.proofs.close_message.Tie as tie
@@ -23,7 +23,7 @@ returns c =
     let counted = holding-put typed 2 (n + 2) c.put-2.ensures in
     let listed = holding-kept counted n inside in
     holding-all (holding-put listed 2 0 c.put-3.ensures) (omega arith)
-    ∙ message-is (type a.attribute) (part 4 n out) header.result n header.ensures (length_part 4 n out inside)
+    ∙ message-is (type_of a.attribute) (part 4 n out) header.result n header.ensures (length_part 4 n out inside)
 
 pub close_message_spec : {M : Type 1} → statement M
 close_message_spec =

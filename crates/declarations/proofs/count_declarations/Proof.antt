@@ -6,13 +6,13 @@ use Rattle.model.specs.State.{sender_at}
 use Rattle.model.specs.Registrations.{advertises, faileds, listeners}
 use Rattle.model.specs.Table.{decode}
 use Rattle.model.specs.Declarations.{of_kind, domain_values, declarations}
-use Rattle.declarations.specs.Passes.{type, all_of}
+use Rattle.declarations.specs.Passes.{all_of}
 use borrow.Author.Rules.{rules}
 use Rattle.declarations.proofs.count_declarations.Statement.{statement}
 use Rattle.declarations.proofs.count_declarations.Tie as tie
 
 returns : tie.Need-returns
-unfolding declarations type all_of
+unfolding declarations all_of
 returns c =
     let a = c.args in
     let b = decode a.table.now in

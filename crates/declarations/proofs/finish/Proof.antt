@@ -1,4 +1,5 @@
 -- `declarations::finish` meets its contract. Assumes nothing.
+use Rattle.model.specs.Attributes.{type_of}
 use mathlib.Core.Path.{refl, ap, ◌∙◌}
 use Prim.Native.Nat.{ℕ, ◌-◌}
 use native.Mathlib.Omega.{arith}
@@ -7,7 +8,6 @@ use Rattle.octets.proofs.Parts.{lent-part, length_part}
 use Rattle.model.specs.Writing.{leaves_all}
 use Rattle.model.specs.Table.{decode}
 use Rattle.declarations.specs.Vectors.{announced}
-use Rattle.declarations.specs.Passes.{type}
 use Rattle.declarations.proofs.Written.{lent-announced}
 use borrow.Author.Rules.{rules}
 use Rattle.declarations.proofs.finish.Statement.{statement}
@@ -26,7 +26,7 @@ returns c =
     let n : ℕ = length out - 6 in
     let y = c.announce.new.out in
     c.close_message.ensures
-    ∙ lent-announced (leaves_all (decode a.table.now) a.p) (type a.attribute) n y out (omega (arith, c.requires.1)) refl
+    ∙ lent-announced (leaves_all (decode a.table.now) a.p) (type_of a.attribute) n y out (omega (arith, c.requires.1)) refl
     (c.announce.ensures ∙ ap (announced (leaves_all (decode a.table.now) a.p)) (lent-part 4 n out))
 
 pub finish_spec : {M : Type 1} → statement M

@@ -7,7 +7,7 @@ use Rattle.model.proofs.Lists.{all-at}
 use Rattle.cutting.proofs.Named.{named-at}
 use Rattle.table.proofs.ByPlace.{stands_on}
 use Rattle.declarations.specs.Packed.{Tells}
-use Rattle.declarations.proofs.Vectors.{listener-said}
+use Rattle.declarations.proofs.Vectors.{listener_said}
 use borrow.Author.Rules.{rules}
 use Rattle.declarations.proofs.listener_number.Statement.{statement}
 use Rattle.declarations.proofs.listener_number.Tie as tie
@@ -25,7 +25,7 @@ returns : tie.Need-returns
 returns c =
     let a = c.args in
     let pre = c.requires in
-    let told = listener-said a.p (decode a.table.now) (get_or a.places.now a.i 0) (all-at (Tells a.table.now a.p) a.places.now pre.0.each a.i 0 pre.1) in
+    let told = listener_said a.p (decode a.table.now) (get_or a.places.now a.i 0) (all-at (Tells a.table.now a.p) a.places.now pre.0.each a.i 0 pre.1) in
     (c.sent_octet.ensures ∙ told.0, omega (arith, c.sent_octet.ensures, told.0, told.1))
 
 pub listener_number_spec : {M : Type 1} → statement M

@@ -1,27 +1,25 @@
 -- `declarations::take` meets its contract. Assumes nothing.
+use Rattle.model.specs.Attributes.{type_of}
 use mathlib.Core.Path.{◌≡◌, refl}
 use mathlib.Core.Logic.{◌⊎◌, ⊎_elim}
-use Rattle.declarations.specs.declared.Attribute.{Attribute}
-use Rattle.declarations.specs.declared.Attribute.TheVariants.{Advertise, Failed, Domain}
-use Rattle.declarations.specs.Passes.{type, Single}
+use Rattle.model.specs.declared.attribute.Attribute.{Attribute}
+use Rattle.model.specs.declared.attribute.Attribute.TheVariants.{Advertise, Failed, Domain}
+use Rattle.declarations.specs.Passes.{Single}
 use borrow.Author.Rules.{rules}
 use Rattle.declarations.proofs.take.Statement.{statement}
 use Rattle.declarations.proofs.take.Tie as tie
 
 -- the types of the last arm
-single : (a : Attribute) → (a ≡ Advertise) ⊎ ((a ≡ Failed) ⊎ (a ≡ Domain)) → Single (type a)
-unfolding type
+single : (a : Attribute) → (a ≡ Advertise) ⊎ ((a ≡ Failed) ⊎ (a ≡ Domain)) → Single (type_of a)
 single a = ⊎_elim (λ (e : a ≡ Advertise). rw e tt) (⊎_elim (λ (e : a ≡ Failed). rw e tt) (λ (e : a ≡ Domain). rw e tt))
 
 take-listeners-requires : tie.Need-take_listeners-requires
-unfolding type
 take-listeners-requires c κs =
     let pre = c.requires in
     let told = c.in-Listener.is in
     (rw told at pre.0, pre.1, told, refl)
 
 returns : tie.Need-returns-in-Listener
-unfolding type
 returns c = rw c.in-Listener.is c.take_listeners.ensures
 
 take-run-requires : tie.Need-take_run-requires

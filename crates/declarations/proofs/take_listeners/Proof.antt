@@ -12,7 +12,7 @@ use Rattle.model.specs.Writing.{leaves_all}
 use Rattle.model.specs.Table.{decode}
 use Rattle.model.proofs.WritingPasses.{fitting-over}
 use Rattle.model.proofs.PlaceLists.{no_length}
-use Rattle.declarations.specs.Passes.{type, said_from, earlier, later, fitting}
+use Rattle.declarations.specs.Passes.{said_from, earlier, later, fitting}
 use Rattle.declarations.specs.Packed.{listeners_at}
 use Rattle.declarations.proofs.Fitting.{used-is, from-type}
 use Rattle.declarations.proofs.Written.{none-fits}
@@ -21,24 +21,19 @@ use Rattle.declarations.proofs.take_listeners.Statement.{statement}
 use Rattle.declarations.proofs.take_listeners.Tie as tie
 
 later-is : (c : tie.After-later_sizes-later) → c.later_sizes-later.result ≡ later (leaves_all (decode c.args.table.now) c.args.p) (registers listeners)
-unfolding type
 later-is c = rw (← c.leaves_all.ensures) c.later_sizes-later.ensures.0
 
 -- as many are left as are to say
 left_is : (c : tie.After-later_sizes-later) → c.args.run.count ≡ length (said_from (registers listeners) c.args.p (decode c.args.table.now) c.args.run.first)
-unfolding type
 left_is c = rw c.requires.2 at c.requires.1.all
 
 write-none-requires : tie.Need-write_none-requires
-unfolding type
 write-none-requires c κs = c.requires.0
 
 write-none-requires-2 : tie.Need-write_none-requires-then-left-eq0
-unfolding type
 write-none-requires-2 c κs = c.requires.0
 
 returns : tie.Need-returns-then-at-later-gt-LONGEST
-unfolding type
 returns c =
     let a = c.args in
     let pre = c.requires in
@@ -52,7 +47,6 @@ returns c =
     none-fits all k l a.at none c.write_none.ensures
 
 returns-2 : tie.Need-returns-then-left-eq0
-unfolding type
 returns-2 c =
     let a = c.args in
     let b = decode a.table.now in

@@ -12,7 +12,7 @@ use Rattle.model.specs.Writing.{leaves_all}
 use Rattle.model.specs.Table.{decode}
 use Rattle.cutting.specs.Named.{ids_of}
 use Rattle.cutting.specs.Plan.{Packed}
-use Rattle.declarations.specs.Passes.{type, later, message}
+use Rattle.declarations.specs.Passes.{later, message}
 use Rattle.declarations.specs.Packed.{listeners_at}
 use Rattle.declarations.proofs.Packed.{listeners-own, listeners-take}
 use Rattle.declarations.proofs.Listeners.{packed-number, planned-within, planned-room, planned-some, planned-message, planned-cut}
@@ -23,18 +23,15 @@ use Rattle.declarations.proofs.take_packed.Tie as tie
 
 -- the room of the vectors, and the plan
 later-is : (c : tie.After-later_sizes-later) → c.later_sizes-later.result ≡ later (leaves_all (decode c.args.table.now) c.args.p) (registers listeners)
-unfolding type
 later-is c = rw (← c.leaves_all.ensures) c.later_sizes-later.ensures.0
 
 made : (c : tie.After-pack-n) → Packed (longest_pdu - (c.args.at + 8 + later (leaves_all (decode c.args.table.now) c.args.p) (registers listeners))) (ids_of c.args.table.now c.args.places.now) c.pack-n.result c.pack-n.new.weighs c.pack-n.new.firsts
 made c = rw (← later-is c.before.before.before) c.pack-n.ensures.0
 
 write-none-requires : tie.Need-write_none-requires
-unfolding type
 write-none-requires c κs = c.requires.message
 
 returns : tie.Need-returns-then-n-eq0
-unfolding type
 returns c =
     let a = c.args in
     let pre = c.requires in
@@ -73,7 +70,6 @@ write-listeners-requires c κs =
     }
 
 returns-2 : tie.Need-returns
-unfolding type
 returns-2 c =
     let a = c.args in
     let pre = c.requires in

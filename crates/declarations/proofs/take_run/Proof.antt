@@ -1,4 +1,5 @@
 -- `declarations::take_run` meets its contract. Assumes nothing.
+use Rattle.model.specs.Attributes.{type_of}
 use mathlib.Core.Path.{◌≡◌, sym, ap, ◌∙◌}
 use Prim.Native.Nat.{ℕ, ◌+◌, ◌*◌, ◌≤◌, ◌<◌}
 use native.Mathlib.Omega.{arith}
@@ -7,7 +8,7 @@ use Rattle.octets.proofs.Parts.{lent-part, length_part}
 use Rattle.model.specs.FrameLayout.{longest_pdu}
 use Rattle.model.specs.Writing.{leaves_all}
 use Rattle.model.specs.Table.{decode}
-use Rattle.declarations.specs.Passes.{type, said_from, later, fits}
+use Rattle.declarations.specs.Passes.{said_from, later, fits}
 use Rattle.declarations.proofs.Fitting.{fits-within, fits-room, from-type, single-number, single-length}
 use Rattle.declarations.proofs.Written.{none-fits, some_fit}
 use borrow.Author.Rules.{rules}
@@ -15,7 +16,7 @@ use Rattle.declarations.proofs.take_run.Statement.{statement}
 use Rattle.declarations.proofs.take_run.Tie as tie
 
 -- the number that fits
-number_is : (c : tie.After-fits-n) → c.fits-n.result ≡ fits (c.args.at + 8 + later (leaves_all (decode c.args.table.now) c.args.p) (type c.args.run.attribute)) c.vector_size-size.result c.args.run.count
+number_is : (c : tie.After-fits-n) → c.fits-n.result ≡ fits (c.args.at + 8 + later (leaves_all (decode c.args.table.now) c.args.p) (type_of c.args.run.attribute)) c.vector_size-size.result c.args.run.count
 number_is c = rw (← c.leaves_all.ensures, ← c.later_sizes-later.ensures.0) c.fits-n.ensures
 
 returns : tie.Need-returns-then-n-eq0
@@ -23,7 +24,7 @@ returns c =
     let a = c.args in
     let pre = c.requires in
     let b = decode a.table.now in
-    let k = type a.run.attribute in
+    let k = type_of a.run.attribute in
     let l = said_from k a.p b a.run.first in
     let n = single-number (leaves_all b a.p) k pre.2 l (from-type b a.p k a.run.first) a.at pre.0.after _ _ _ c.vector_size-size.ensures.0 (sym pre.1.all) (number_is c.before.before.before.before.before) in
     none-fits (leaves_all b a.p) k l a.at (sym n ∙ c.if-n-eq0.true) c.write_none.ensures
@@ -60,7 +61,7 @@ returns-2 c =
     let pre = c.requires in
     let b = decode a.table.now in
     let all = leaves_all b a.p in
-    let k = type a.run.attribute in
+    let k = type_of a.run.attribute in
     let l = said_from k a.p b a.run.first in
     let own = from-type b a.p k a.run.first in
     let number = number_is c.before.before.before.before.before in

@@ -11,7 +11,6 @@ use Rattle.model.specs.Frames.{registers}
 use Rattle.model.specs.Writing.{leaves_all}
 use Rattle.model.specs.WrittenFrames.{vectors_of, vector_octets}
 use Rattle.model.specs.Table.{decode}
-use Rattle.declarations.specs.Passes.{type}
 use Rattle.declarations.specs.Packed.{listeners_at, packed_vectors}
 use Rattle.declarations.proofs.Packed.{listeners-own, listeners-length}
 use Rattle.declarations.proofs.Written.{lent-vectors, packed-plain}
@@ -32,7 +31,6 @@ finish-requires : tie.Need-finish-requires
 finish-requires c κs = (c.requires.port, omega (arith, c.requires.some))
 
 returns : tie.Need-returns
-unfolding type
 returns c =
     let start = c.before.before.before.before.before.before.before.before.before.before.before.before in
     let a = start.args in

@@ -1,4 +1,5 @@
 -- `declarations::write_message` meets its contract. Assumes nothing.
+use Rattle.model.specs.Attributes.{type_of}
 use mathlib.Core.Path.{◌≡◌, ap, ◌∙◌}
 use native.Mathlib.Nat.{suc-mul}
 use Prim.Native.Nat.{ℕ, suc, ◌+◌, ◌-◌, ◌≤◌}
@@ -11,7 +12,7 @@ use Rattle.model.specs.Table.{decode}
 use Rattle.model.specs.Declarations.{vector_size}
 use Rattle.model.proofs.Lists.{all_take}
 use Rattle.model.proofs.WritingPasses.{OfAttribute}
-use Rattle.declarations.specs.Passes.{type, said_from, run_of}
+use Rattle.declarations.specs.Passes.{said_from, run_of}
 use Rattle.declarations.proofs.Fitting.{from-type, vector-least}
 use Rattle.declarations.proofs.Written.{lent-vectors, singles-vectors}
 use borrow.Author.Rules.{rules}
@@ -23,15 +24,15 @@ finish-requires : tie.Need-finish-requires
 finish-requires c κs =
     let a = c.args in
     let pre = c.requires in
-    let size : ℕ = vector_size (type a.run.attribute) in
+    let size : ℕ = vector_size (type_of a.run.attribute) in
     let i : suc (a.run.count - 1) ≡ a.run.count = omega (arith, pre.0.any) in
-    (pre.0.port, omega (arith, pre.1, rw i at (suc-mul (a.run.count - 1) size), vector-least (type a.run.attribute)))
+    (pre.0.port, omega (arith, pre.1, rw i at (suc-mul (a.run.count - 1) size), vector-least (type_of a.run.attribute)))
 
 returns : tie.Need-returns
 returns c =
     let start = c.before.before.before.before.before.before.before.before.before.before in
     let a = start.args in
-    let k = type a.run.attribute in
+    let k = type_of a.run.attribute in
     let b = decode a.table.now in
     let out = a.out.now in
     let n : ℕ = length out - 6 in

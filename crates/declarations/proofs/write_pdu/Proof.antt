@@ -8,13 +8,13 @@ use Rattle.model.specs.Registrations.{advertises, faileds, listeners}
 use Rattle.model.specs.Frames.{registers, domain_type}
 use Rattle.model.specs.Writing.{leaves_all}
 use Rattle.model.specs.Table.{decode}
-use Rattle.declarations.specs.Passes.{type, earlier, later, begun}
+use Rattle.declarations.specs.Passes.{earlier, later, begun}
 use Rattle.declarations.proofs.Written.{first-room, next-pass, pdu-answer}
 use Rattle.declarations.proofs.write_pdu.Statement.{statement}
 use Rattle.declarations.proofs.write_pdu.Tie as tie
 
 pass-requires : tie.Need-pass-a-requires
-unfolding type earlier
+unfolding earlier
 pass-requires c κs =
     let start = c.before.before.before in
     let a = start.args in
@@ -29,7 +29,7 @@ pass-requires c κs =
     }
 
 pass-requires-2 : tie.Need-pass-f-requires
-unfolding type earlier later
+unfolding earlier later
 pass-requires-2 c κs =
     let start = c.before.before.before.before.before.before.before in
     let a = start.args in
@@ -37,7 +37,7 @@ pass-requires-2 c κs =
     next-pass a.table.now a.p (registers advertises) (registers faileds) start.requires.port (omega arith) refl first (omega (arith, first.end, start.requires.within)) (omega (arith, length-set a.buffer.now 0 0, start.requires.buffer))
 
 pass-requires-3 : tie.Need-pass-l-requires
-unfolding type earlier later
+unfolding earlier later
 pass-requires-3 c κs =
     let start = c.before.before.before.before.before.before.before.before.before.before.before in
     let a = start.args in
@@ -45,7 +45,7 @@ pass-requires-3 c κs =
     next-pass a.table.now a.p (registers faileds) (registers listeners) start.requires.port refl refl second (omega (arith, second.end, c.pass-a.ensures.end, start.requires.within)) (omega (arith, length-set a.buffer.now 0 0, start.requires.buffer))
 
 pass-requires-4 : tie.Need-pass-d-requires
-unfolding type earlier later
+unfolding earlier later
 pass-requires-4 c κs =
     let start = c.before.before.before.before.before.before.before.before.before.before.before.before.before.before.before in
     let a = start.args in
@@ -62,7 +62,7 @@ same_length : tie.Need-shape_of-buffer
 same_length c = omega (arith, length-set c.args.buffer.now 0 0)
 
 returns : tie.Need-returns
-unfolding type begun
+unfolding begun
 returns c =
     let start = c.before.before.before.before.before.before.before.before.before.before.before.before.before.before.before.before.before.before.before.before.before.before.before in
     let a = start.args in

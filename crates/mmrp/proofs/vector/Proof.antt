@@ -8,7 +8,6 @@ use lib.ListN.{take, drop}
 use Rattle.model.specs.Registrations.{AddressAct}
 use Rattle.model.specs.AddressFrames.{mac_list, address_values, all_addresses}
 use Rattle.msrpdu.specs.Reader.{first_part}
-use Rattle.msrpdu.specs.declared.VectorRead.TheVariants.{Vector}
 use Rattle.mmrp.specs.Walked.{vector_of}
 use Rattle.mmrpdu.proofs.Walking.{Within, within}
 use Rattle.mmrp.proofs.Walks.{walked-laid, walked_on}
@@ -27,7 +26,7 @@ values-requires c κs =
     record {
       laid = walked-laid a.args.walk.applying a.args.walk.clock a.args.own.now p.laid (all_addresses a.args.head.leaves) true _ c.begin_all.ensures;
       events = enough-events p.version a.args.pdu.now p.at a.args.head p.read;
-      values = rw c.first_value-first.ensures (has-addresses p.version a.args.pdu.now p.at a.args.head p.read);
+      values = rw c.first_value_at-first.ensures (has-addresses p.version a.args.pdu.now p.at a.args.head p.read);
     }
 
 -- the acts of its values
@@ -35,7 +34,7 @@ values : (a : tie.Start) → List AddressAct
 values a =
     let w = a.args.head in
     let s = a.args.pdu.now in
-    address_values (vector_of (first_part s (Vector w)) (take (w.four - w.three) (drop w.three s))) 0 w.values
+    address_values (vector_of (first_part s w) (take (w.four - w.three) (drop w.three s))) 0 w.values
 
 returns : tie.Need-returns
 unfolding values
@@ -43,7 +42,7 @@ returns c =
     let a = c.before.before.before.before.before.before.before.before.before.before.before.before in
     rw (vector-acts a.args.pdu.now a.args.head)
     (walked_on a.args.walk.applying a.args.walk.clock a.args.own.now a.requires.laid (all_addresses a.args.head.leaves) (values a) _
-    c.begin_all.ensures c.values.result _ (rw c.first_value-first.ensures at c.values.ensures))
+    c.begin_all.ensures c.values.result _ (rw c.first_value_at-first.ensures at c.values.ensures))
 
 pub vector_spec : {M : Type 1} → statement M
 vector_spec =

@@ -7,7 +7,7 @@ use Rattle.registrar.proofs.Enrolling.{enrolled-there, enrolled-made, no_room}
 use Rattle.registrar.proofs.enrol.Statement.{statement}
 use Rattle.registrar.proofs.enrol.Tie as tie
 
-find-requires : tie.Need-find-f-requires
+find-requires : tie.Need-find-requires
 find-requires c κs = c.requires
 
 count-requires : tie.Need-count-requires
@@ -16,25 +16,25 @@ count-requires c κs = c.requires
 returns : tie.Need-returns-then-count-eq64
 returns c =
     let a = c.args in
-    no_room a.table.now c.requires a.id _ (sym c.find-f.ensures ∙ c.in-Gap.is)
+    no_room a.table.now c.requires a.id _ (sym c.find.ensures ∙ c.in-Err.is)
     (sym c.count.ensures.0 ∙ c.if-count-eq64.true)
 
 insert-requires : tie.Need-insert-requires
 insert-requires c κs =
     let n = c.count.ensures in
-    let g = at_gap _ _ _ (sym c.find-f.ensures ∙ c.in-Gap.is) in
+    let g = at_gap _ _ _ (sym c.find.ensures ∙ c.in-Err.is) in
     record { laid = c.requires; few = search rules; within = g.within }
 
-returns-2 : tie.Need-returns-in-At
+returns-2 : tie.Need-returns-in-Ok
 returns-2 c =
     let a = c.args in
-    enrolled-there a.table.now c.requires a.id _ (sym c.find-f.ensures ∙ c.in-At.is)
+    enrolled-there a.table.now c.requires a.id _ (sym c.find.ensures ∙ c.in-Ok.is)
 
 returns-3 : tie.Need-returns-else-count-eq64
 returns-3 c =
     let a = c.args in
     let n = c.count.ensures in
-    enrolled-made a.table.now c.requires a.id _ (sym c.find-f.ensures ∙ c.in-Gap.is) _ (search rules) (omega arith)
+    enrolled-made a.table.now c.requires a.id _ (sym c.find.ensures ∙ c.in-Err.is) _ (search rules) (omega arith)
     c.insert.ensures
 
 pub enrol_spec : {M : Type 1} → statement M

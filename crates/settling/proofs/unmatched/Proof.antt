@@ -2,10 +2,9 @@
 use native.Mathlib.Omega.{arith}
 use borrow.Author.Rules.{rules}
 use Rattle.model.specs.State.{own_at, class_priority}
-use Rattle.model.specs.Settling.{any_domain, domains_of}
 use Rattle.model.specs.Table.{decode}
 use Rattle.table.proofs.OwnParts.{own-fits}
-use Rattle.streams.specs.Answers.{class_shown}
+use Rattle.streams.specs.Answers.{named}
 use Rattle.settling.proofs.Edges.{a-from, b-from}
 use Rattle.settling.proofs.unmatched.Statement.{statement}
 use Rattle.settling.proofs.unmatched.Tie as tie
@@ -20,12 +19,8 @@ unmatched-requires-2 c κs =
     let r = c.own_at-own.ensures in
     record { laid = r.laid; size = r.size; within = omega arith }
 
-returns : tie.Need-returns-in-NoClass
-unfolding class_shown domains_of any_domain
-returns c = rw c.in-NoClass.is
-
 returns-2 : tie.Need-returns-in-A
-unfolding class_shown class_priority
+unfolding named class_priority
 returns-2 c =
     let first = c.before.before.before.before.before in
     let ds = (own_at (decode first.args.table.now).owns first.args.p).domains in
@@ -33,7 +28,7 @@ returns-2 c =
     c.unmatched.ensures
 
 returns-3 : tie.Need-returns-in-B
-unfolding class_shown class_priority
+unfolding named class_priority
 returns-3 c =
     let first = c.before.before.before.before.before in
     let ds = (own_at (decode first.args.table.now).owns first.args.p).domains in
@@ -43,5 +38,5 @@ returns-3 c =
 pub unmatched_spec : {M : Type 1} → statement M
 unmatched_spec =
     tie.close
-    (tie.spec (λ c κs. search rules) (λ c. search rules) (λ c. search rules) (λ c κs. c.requires.laid) unmatched-requires (λ c. search rules)
-    (λ c κs. c.requires.laid) unmatched-requires-2 returns returns-2 returns-3)
+    (tie.spec (λ c κs. search rules) (λ c. search rules) (λ c κs. c.requires.laid) unmatched-requires (λ c. search rules)
+    (λ c κs. c.requires.laid) unmatched-requires-2 returns-2 returns-3)

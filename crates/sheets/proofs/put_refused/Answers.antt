@@ -1,7 +1,8 @@
-use Rattle.console.proofs.Laws.{put-append}
+-- The word, the number and the end.
+use Rattle.console.proofs.Texts.{puts-append}
 use Rattle.sheets.specs.Lines.{refused_line}
 use Rattle.sheets.proofs.put_refused.Goals as goal
 
 pub returns : goal.returns
 unfolding refused_line
-returns c = put-append c.put-a.ensures (put-append c.put_number-b.ensures c.put.ensures)
+returns c = puts-append c.put.ensures (puts-append c.put_number.ensures c.put-2.ensures)

@@ -1,0 +1,9 @@
+-- those counted, and those of the declarers to come
+use Rattle.std.proofs.Common.{◌≡◌, ◌+◌, length}
+use Rattle.model.specs.Attributes.{type_of}
+use Rattle.model.specs.Table.{decode}
+use Rattle.declarations.specs.Passes.{said_from}
+use Rattle.declarations.proofs.count_saying.Given as goal
+
+abbrev pub invariant-loop-k : goal.invariant-loop-k
+invariant-loop-k l = l.n + length (said_from (type_of l.attribute) l.p (decode l.table) l.k) ≡ length (said_from (type_of l.attribute) l.p (decode l.table) l.first)

@@ -1,0 +1,10 @@
+use Rattle.std.proofs.Common.{rules, tests, ◌∙◌}
+use Rattle.std.proofs.lemmas.Iterator.{YieldsList-from_slice}
+use Rattle.std.proofs.lemmas.Iterator.Search.{any_from_yields_List}
+use Rattle.table.proofs.HeldRecords.{registers, held_any}
+use Rattle.table.proofs.is_registered.Goals as goal
+
+pub returns : goal.returns
+returns c =
+    any_from_yields_List registers _ _ _ c.any.ensures.ran (YieldsList-from_slice c.as_chunks.result.0.now cc) (λ x b q k. search (rules, tests))
+    ∙ held_any c.args.rec.now c.requires _ c.as_chunks.ensures.front
