@@ -1,21 +1,37 @@
--- Values compared octet by octet: they are the same exactly where all octets are.
+-- Values compared octet by octet: a turn, and the end; they are the same exactly where all octets are.
 use mathlib.Core.Path.{◌≡◌, refl, sym, ◌∙◌, ap, ap₂}
 use mathlib.Core.List.{List, [], ◌∷◌}
-use mathlib.Core.Bool.{Bool, true, false, ◌&&◌, false≢true}
-use Prim.Native.Nat.{ℕ}
+use mathlib.Core.Bool.{Bool, true, false, ◌&&◌, false≢true, and_assoc}
+use Prim.Native.Nat.{ℕ, ◌+◌, ◌≤◌, ◌<◌}
+use native.Mathlib.Numerals.{add-one}
+use native.Mathlib.Omega.{arith}
+use lib.ListN.{length, get_or, drop}
+use lib.Seq.{drop-cons, drop-length}
 use lib.Dec.{eqb}
 use borrow.Author.Tests.{eq-eqb, eqb-true}
-use Rattle.std.specs.Cmp.Lexicographic.{pointwise}
-use Rattle.model.proofs.Lists.{and_left, and_right}
+use Rattle.model.proofs.Lists.{and_left, and_right, and-true}
 use Rattle.declaring.specs.Octets.{same_octets}
 
--- the test of the library
-pub compared : (v w : List ℕ) → pointwise eqb v w ≡ same_octets v w
-unfolding same_octets
-compared [] [] = refl
-compared [] (y ∷ w) = refl
-compared (x ∷ v) [] = refl
-compared (x ∷ v) (y ∷ w) = ap (λ (t : Bool). eqb x y && t) (compared v w)
+-- a loop that tests one octet after another: what is left to test, from place i on
+abbrev pub Comparing : List ℕ → List ℕ → Bool → ℕ → Type 0
+Comparing v w same i = (i ≤ length v) × ((same && same_octets (drop i v) (drop i w)) ≡ same_octets v w)
+
+module _ (v w : List ℕ) (e : length w ≡ length v) (same : Bool) (i : ℕ) (c : Comparing v w same i) where
+  pub same_next : i < length v → Comparing v w (same && eqb (get_or v i 0) (get_or w i 0)) (i + 1)
+  unfolding same_octets
+  same_next h =
+      let k : i < length w = omega arith in (
+        omega arith,
+        and_assoc same (eqb (get_or v i 0) (get_or w i 0)) (same_octets (drop (i + 1) v) (drop (i + 1) w))
+            ∙ rw (add-one i) (rw (drop-cons v i 0 h, drop-cons w i 0 k) at c.1),
+      )
+
+  pub same_done : length v ≤ i → same ≡ same_octets v w
+  unfolding same_octets
+  same_done h =
+      let all : i ≡ length v = omega (arith, c.0) in
+      let none : same_octets (drop i v) (drop i w) ≡ true = rw (all, drop-length v, ← e, drop-length w) in
+      sym (and-true same) ∙ (rw none at c.1)
 
 pub same_self : (s : List ℕ) → same_octets s s ≡ true
 unfolding same_octets

@@ -10,7 +10,6 @@ use Rattle.applicants.specs.declared.Applicant.{Applicant}
 use Rattle.applicants.specs.Octets.{octet, applicant}
 use Rattle.applicants.proofs.Octets.{step_read, as_octet}
 use Rattle.declaring.specs.Octets.{decided_octets}
-use Rattle.declaring.proofs.Comparing.{compared}
 use Rattle.declaring.proofs.Machines.{steady-declared, steady-withdrawn}
 use Rattle.declaring.proofs.is_steady.Goals as goal
 
@@ -25,7 +24,7 @@ returns-then-declared c =
     let n : ℕ = get_or a.machine.now 0 0 in
     let j : step false join n ≡ n = still join n _ _ _ c.from-state.ensures c.joined.ensures (as_octet c.joined.result) c.if-joined-machine.false in
     λ e. rw c.if-declared.true
-    (steady-declared a.machine.now a.first.now a.rest.now c.requires j _ _ (c.eq.ensures ∙ compared _ _) (c.eq-then-declared.ensures ∙ compared _ _) e)
+    (steady-declared a.machine.now a.first.now a.rest.now c.requires j _ _ c.is_same.ensures c.is_same-then-declared.ensures e)
 
 pub returns : goal.returns
 unfolding decided_octets pick
