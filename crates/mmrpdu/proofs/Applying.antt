@@ -4,20 +4,20 @@ use mathlib.Core.Path.{◌≡◌, refl, sym, ap, subst, ◌∙◌}
 use mathlib.Core.List.{List, [], ◌++◌}
 use mathlib.Core.Bool.{false}
 use Rattle.std.specs.Prelude.{Some, None, Result, Ok, Err}
-use Prim.Native.Nat.{ℕ, zero, suc, ◌+◌, ◌/◌, ◌%◌, ◌^◌, ◌≤◌, ◌<◌}
+use Prim.Native.Nat.{ℕ, zero, suc, ◌+◌, ◌%◌, ◌^◌, ◌≤◌, ◌<◌}
 use native.Mathlib.Omega.{arith}
 use lib.ListN.{length, get_or}
 use lib.Dec.{ltb, eqb}
-use borrow.Author.Tests.{ltb-false, eqb-false, lt-ltb}
+use borrow.Author.Tests.{ltb-false, eqb-false}
 use Rattle.octets.specs.Be.{be_at}
 use Rattle.octets.proofs.Parts.{lent_length, length_part}
 use Rattle.model.specs.FrameLayout.{longest_pdu}
 use Rattle.model.specs.Registrations.{AddressAct, AddressReading, refused_frame, address_acts}
-use Rattle.model.specs.Frames.{three_length, vector_end, vector_head, event, three_packed}
+use Rattle.model.specs.Frames.{three_length, vector_end, vector_head}
 use Rattle.model.specs.AddressFrames.{AddressList, mac_list, first_octets, overruns, address_vector_in, AddressVector, address_vector_at, address_of, address_values, all_addresses, address_vector_acts, ListWalk, list_fault, list_acts, address_vectors, address_messages, address_walk}
 use Rattle.model.proofs.FoundVectors.{passed}
 use Rattle.model.proofs.FoundAddresses.{address-faults, no-refusal, no-list-fault, then-list, after_list_lem, passed-addresses, each_within}
-use Rattle.msrpdu.specs.Reader.{head_of, event_meant, event_in}
+use Rattle.msrpdu.specs.Reader.{head_of}
 use Rattle.msrpdu.specs.declared.VectorHead.{VectorHead}
 use Rattle.msrpdu.specs.declared.VectorRead.{VectorRead}
 use Rattle.msrpdu.specs.declared.VectorRead.TheVariants as vector

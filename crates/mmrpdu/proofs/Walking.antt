@@ -1,9 +1,9 @@
 -- The reader's steps are those of the walk: what `address_vectors` and `address_messages` give from a place on, by what is read there.
 -- Assumes nothing.
 use mathlib.Core.Path.{◌≡◌, refl, sym, ap, ◌∙◌}
-use mathlib.Core.List.{List, [], ◌++◌}
+use mathlib.Core.List.{List, []}
 use mathlib.Core.Bool.{Bool, true, false}
-use Rattle.std.specs.Prelude.{Option, Some, None, Result, Ok, Err}
+use Rattle.std.specs.Prelude.{Some, None, Result, Ok, Err}
 use Prim.Native.Nat.{ℕ, suc, ◌+◌, ◌≤◌, ◌<◌}
 use native.Mathlib.Omega.{arith}
 use lib.ListN.{length, get_or}
@@ -19,7 +19,7 @@ use Rattle.model.proofs.FoundAddresses.{address-faults, passed-addresses, over-a
 use Rattle.msrpdu.specs.Reader.{head_of}
 use Rattle.msrpdu.specs.declared.VectorHead.{VectorHead}
 use Rattle.msrpdu.specs.declared.VectorRead.TheVariants as vector
-use Rattle.msrpdu.proofs.Left.{Left, left-on}
+use Rattle.msrpdu.proofs.Left.{Left}
 use Rattle.msrpdu.proofs.Reading.{read-refused, read-end, read_head, read-over}
 use Rattle.model.proofs.Numbers.{refusal-numbered}
 use Rattle.model.specs.Numbers.{refusal_of, answer_number}

@@ -1,21 +1,22 @@
 -- Laws of the reader's definitions, one for each arm. Assumes nothing.
 use mathlib.Core.Path.{◌≡◌, refl, sym, ap, ◌∙◌}
-use mathlib.Core.List.{List, [], ◌∷◌}
+use mathlib.Core.List.{List}
 use mathlib.Core.Bool.{Bool, true, false, cond, ◌&&◌, ◌||◌}
 use Rattle.std.specs.Prelude.{Some, None, Ok, Err}
-use Rattle.std.specs.List.{list_any}
 use Prim.Native.Nat.{ℕ, zero, suc, ◌+◌, ◌-◌, ◌/◌, ◌%◌, ◌≤◌, ◌<◌, ◌^◌}
 use native.Mathlib.Omega.{arith}
-use lib.ListN.{length, get_or, take, drop}
-use lib.Dec.{ltb, leb, eqb}
+use lib.ListN.{length, get_or, take, drop, drop_of_length-le}
+use lib.Seq.{drop-cons}
+use native.Mathlib.Numerals.{add-one}
+use lib.Dec.{leb, eqb}
 use borrow.Author.Tests.{lt-ltb, le-ltb, lt-leb, eq-eqb, ne_eqb}
 use Rattle.octets.specs.Be.{be_at}
 use Rattle.octets.specs.Parts.{part}
 use Rattle.octets.proofs.Parts.{lent-part}
 use Rattle.model.proofs.Lists.{and-false}
-use Rattle.std.proofs.Common.{◌⊎◌, inl, inr}
 use Rattle.model.specs.Attributes.{type_of, code_of, attribute_at}
 use Rattle.model.specs.declared.attribute.Attribute as attribute
+use Rattle.model.specs.declared.attribute.Attribute.TheVariants as variant
 use Rattle.model.proofs.Attributes.{code_type}
 use Rattle.model.specs.Frames.{Attribute, registers, domain_type, TypeOctet, not_allowed, unknown, known, type_octet, first_length, three_length, has_four, vector_end, bad_vector, passed_over, overpacked, runs_past, strange_leave, strange_vector, vector_in, list_length, end_mark, message_end, header_in, message_in, three_packed, four_packed, has_slot}
 use Rattle.model.specs.Frames as frames
@@ -33,12 +34,25 @@ pub event-there : (three : List ℕ) (n : ℕ) → n / 3 < length three → even
 unfolding event_in
 event-there three n there = rw (lt-ltb (n / 3) (length three) there)
 
--- An event octet above 215.
+-- An event octet above 215, looked for from place i on.
 
-pub overpacked-any : (l : List ℕ) → overpacked l ≡ list_any (ltb 215) l
-unfolding overpacked
-overpacked-any [] = refl
-overpacked-any (o ∷ l) = rw (overpacked-any l)
+module _ (l : List ℕ) (i : ℕ) where
+  pub over_none : length l ≤ i → overpacked (drop i l) ≡ false
+  unfolding overpacked
+  over_none p = rw (drop_of_length-le l p)
+
+  module _ (p : i < length l) where
+    pub over-here : 215 < get_or l i 0 → overpacked (drop i l) ≡ true
+    unfolding overpacked
+    over-here q = rw (drop-cons l i 0 p, lt-ltb 215 _ q)
+
+    -- what is left gives the answer for all
+    pub over_found : 215 < get_or l i 0 → overpacked (drop i l) ≡ overpacked l → true ≡ overpacked l
+    over_found q e = sym (over-here q) ∙ e
+
+    pub over-next : get_or l i 0 ≤ 215 → overpacked (drop i l) ≡ overpacked (drop (i + 1) l)
+    unfolding overpacked
+    over-next q = rw (drop-cons l i 0 p, le-ltb 215 _ q, add-one i)
 
 -- A growing field of FirstValue; x is what stands in the field that grows.
 
@@ -47,37 +61,16 @@ pub value_read : (w g at : ℕ) (first : List ℕ) (n : ℕ) → at + w ≤ leng
 unfolding value_in
 value_read w g at first n p x e q y f = rw (le-ltb _ _ p, ← e, le-ltb _ _ q, f)
 
--- A type octet, by what is known of it.
+-- By the octet of a known type, and of none.
 
-pub known-read : (version o : ℕ) (a : attribute.Attribute) → attribute_at o ≡ Some a → type_read (type_octet version o) ≡ Ok (Some a)
-unfolding type_read type_octet
-known-read version zero a e = cc
-known-read version (suc zero) a e = ap Ok e
-known-read version (suc (suc zero)) a e = ap Ok e
-known-read version (suc (suc (suc zero))) a e = ap Ok e
-known-read version (suc (suc (suc (suc zero)))) a e = ap Ok e
-known-read version (suc (suc (suc (suc (suc n))))) a e = cc
-
-pub refused-read : (version o : ℕ) → attribute_at o ≡ None → (o ≡ 0) ⊎ (version ≡ 0) → type_read (type_octet version o) ≡ Err refusal.AttributeType
-unfolding type_read type_octet
-refused-read version zero e p = refl
-refused-read version (suc zero) e p = cc
-refused-read version (suc (suc zero)) e p = cc
-refused-read version (suc (suc (suc zero))) e p = cc
-refused-read version (suc (suc (suc (suc zero)))) e p = cc
-refused-read version (suc (suc (suc (suc (suc n))))) e (inl q) = absurd (omega arith)
-refused-read version (suc (suc (suc (suc (suc n))))) e (inr q) = rw (eq-eqb version 0 q)
-
-pub skipped-read : (version o : ℕ) → attribute_at o ≡ None → (o ≡ 0 → ⊥) → (version ≡ 0 → ⊥) → type_read (type_octet version o) ≡ Ok None
-unfolding type_read type_octet
-skipped-read version zero e p q = absurd (p refl)
-skipped-read version (suc zero) e p q = cc
-skipped-read version (suc (suc zero)) e p q = cc
-skipped-read version (suc (suc (suc zero))) e p q = cc
-skipped-read version (suc (suc (suc (suc zero)))) e p q = cc
-skipped-read version (suc (suc (suc (suc (suc n))))) e p q = rw (ne_eqb version 0 q)
-
--- By the octet of no known type.
+pub octet-known : (version o : ℕ) (a : attribute.Attribute) → attribute_at o ≡ Some a → type_octet version o ≡ known (type_of a)
+unfolding type_octet
+octet-known version zero a e = cc
+octet-known version (suc zero) a e = let i : variant.Advertise ≡ a = cc in ap (λ (b : attribute.Attribute). known (type_of b)) i
+octet-known version (suc (suc zero)) a e = let i : variant.Failed ≡ a = cc in ap (λ (b : attribute.Attribute). known (type_of b)) i
+octet-known version (suc (suc (suc zero))) a e = let i : variant.Listener ≡ a = cc in ap (λ (b : attribute.Attribute). known (type_of b)) i
+octet-known version (suc (suc (suc (suc zero)))) a e = let i : variant.Domain ≡ a = cc in ap (λ (b : attribute.Attribute). known (type_of b)) i
+octet-known version (suc (suc (suc (suc (suc n))))) a e = cc
 
 pub octet-unknown : (version o : ℕ) (l : List ℕ) (at : ℕ) → attribute_at o ≡ None → typed_read version (type_octet 0 o) l at ≡ Err refusal.AttributeType
 unfolding typed_read type_octet
@@ -88,18 +81,22 @@ octet-unknown version (suc (suc (suc zero))) l at e = cc
 octet-unknown version (suc (suc (suc (suc zero)))) l at e = cc
 octet-unknown version (suc (suc (suc (suc (suc n))))) l at e = refl
 
--- for the search at `type_read`
-pub ruleset types_read = (known-read, refused-read, skipped-read)
-
-pub record Typed (t : TypeOctet) (a : attribute.Attribute) : Type 0 where
+-- a known type is that of its AttributeType, with the octets of its FirstValue
+pub record Typed (t : TypeOctet) (a : attribute.Attribute) (n : ℕ) : Type 0 where
   pub is : t ≡ known (type_of a)
   pub code : code_of (type_of a) ≡ a
+  pub first : n ≡ first_length (type_of a)
 
-pub typed : (t : TypeOctet) (a : attribute.Attribute) → type_read t ≡ Ok (Some a) → Typed t a
+pub typed : (t : TypeOctet) (a : attribute.Attribute) (first : ℕ) → type_read t ≡ Ok (Some (a, first)) → Typed t a first
 unfolding type_read
-typed not_allowed a e = let z : ◌≡◌ {A = ℕ} 0 1 = cc in absurd (omega arith)
-typed unknown a e = let z : ◌≡◌ {A = ℕ} 0 1 = cc in absurd (omega arith)
-typed (known k) a e = let i : code_of k ≡ a = cc in record { is = ap known (sym (code_type k) ∙ ap type_of i); code = rw (← i) (ap code_of (code_type k)) }
+typed not_allowed a first e = let z : ◌≡◌ {A = ℕ} 0 1 = cc in absurd (omega arith)
+typed unknown a first e = let z : ◌≡◌ {A = ℕ} 0 1 = cc in absurd (omega arith)
+typed (known k) a first e =
+    let p : ◌≡◌ {A = attribute.Attribute × ℕ} (code_of k, first_length k) (a, first) = cc in
+    let i : code_of k ≡ a = ap (λ (q : attribute.Attribute × ℕ). q.0) p in
+    let f : first_length k ≡ first = ap (λ (q : attribute.Attribute × ℕ). q.1) p in
+    let u : k ≡ type_of a = sym (code_type k) ∙ ap type_of i in
+    record { is = ap known u; code = rw (← i) (ap code_of (code_type k)); first = sym f ∙ ap first_length u }
 
 -- the places of a vector's head are in order
 pub head-rises : (first : ℕ) (four : Bool) (at h : ℕ) (w : VectorHead) → w ≡ head_of first four at h → (w.three ≤ w.four) × (w.four ≤ w.next)
@@ -210,16 +207,16 @@ module _ (s : List ℕ) (at : ℕ) where
       unfolding message_meant header_in message_end list_length
       skip p = rw (skipped-type t e, ← i, le-ltb _ _ p, ← i)
 
-    module _ (a : attribute.Attribute) (e : type_read t ≡ Ok (Some a)) where
-      pub from-length : (get_or s (at + 1) 0 ≡ first_length (type_of a) → ⊥) → message_meant s at (header_in t s at) ≡ Err refusal.AttributeLength
+    module _ (a : attribute.Attribute) (first : ℕ) (e : type_read t ≡ Ok (Some (a, first))) where
+      pub from-length : (get_or s (at + 1) 0 ≡ first → ⊥) → message_meant s at (header_in t s at) ≡ Err refusal.AttributeLength
       unfolding message_meant header_in refusal_of
-      from-length q = let y = typed t a e in rw (y.is, ne_eqb _ _ q)
+      from-length q = let y = typed t a first e in rw (y.is, ne_eqb _ _ (λ p. q (p ∙ sym y.first)))
 
-      module _ (q : get_or s (at + 1) 0 ≡ first_length (type_of a)) where
+      module _ (q : get_or s (at + 1) 0 ≡ first) where
         pub list-long : length s < at + 4 + n → message_meant s at (header_in t s at) ≡ Err refusal.PastEnd
         unfolding message_meant header_in message_end list_length refusal_of
-        list-long p = let y = typed t a e in rw (y.is, eq-eqb _ _ q, ← i, lt-ltb _ _ p)
+        list-long p = let y = typed t a first e in rw (y.is, eq-eqb _ _ (q ∙ y.first), ← i, lt-ltb _ _ p)
 
         pub list_read_lem : at + 4 + n ≤ length s → message_meant s at (header_in t s at) ≡ Ok (message.List record { attribute = a; list = at + 4; next = at + 4 + n })
         unfolding message_meant header_in message_end list_length
-        list_read_lem p = let y = typed t a e in rw (y.is, eq-eqb _ _ q, ← i, le-ltb _ _ p, ← i, y.code)
+        list_read_lem p = let y = typed t a first e in rw (y.is, eq-eqb _ _ (q ∙ y.first), ← i, le-ltb _ _ p, ← i, y.code)

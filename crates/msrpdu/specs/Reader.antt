@@ -19,11 +19,11 @@ use Rattle.msrpdu.specs.declared.MessageRead.{MessageRead}
 use Rattle.msrpdu.specs.declared.MessageRead.TheVariants as message
 use Rattle.model.specs.State.{slot_of}
 
--- the type octet: refused, skipped, or known
-unfoldable pub type_read : TypeOctet → Result (Option attribute.Attribute) Refusal
+-- the type octet: refused, skipped, or known with the octets of its FirstValue
+unfoldable pub type_read : TypeOctet → Result (Option (attribute.Attribute × ℕ)) Refusal
 type_read not_allowed = Err refusal.AttributeType
 type_read unknown = Ok None
-type_read (known k) = Ok (Some (code_of k))
+type_read (known k) = Ok (Some (code_of k, first_length k))
 
 -- a vector at a place, of header h: LeaveAll, the number of values, the places of its parts, and the place after it
 unfoldable pub head_of : ℕ → Bool → ℕ → ℕ → VectorHead
@@ -63,8 +63,8 @@ first_part l w = cond (ltb (length l) w.three) [] (part w.first (w.three - w.fir
 
 -- "The vector reader hands back the FirstValue itself, as that part of the caller's frame; where it refuses or meets the
 -- EndMark, the part is empty". So it is where it passes over
-unfoldable pub first_meant : List ℕ → Result VectorRead Refusal → List ℕ
-first_meant l (Err refusal) = []
+unfoldable pub first_meant : {E : Type 0} → List ℕ → Result VectorRead E → List ℕ
+first_meant l (Err e) = []
 first_meant l (Ok vector.EndMark) = []
 first_meant l (Ok (vector.PassedOver next)) = []
 first_meant l (Ok (vector.Vector w)) = first_part l w

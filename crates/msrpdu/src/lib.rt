@@ -1,34 +1,48 @@
 // The reader of MSRPDUs (01, "The PDU"): each function's answer is that of the definitions in crate model, for every input.
 #![tactic(auto)]
 
-ghost use Rattle.std.specs.Prelude.{◌≡◌, ◌+◌, ◌-◌, ◌^◌, ◌≤◌, ◌<◌, length, get_or, suc, Ok, Some};
+ghost use Rattle.std.specs.Prelude.{◌≡◌, ◌+◌, ◌-◌, ◌^◌, ◌≤◌, ◌<◌, length, get_or, Ok, Some};
 ghost use Rattle.model.specs.Numbers.{answer_number};
 ghost use Rattle.model.specs.Attributes.{type_of};
 ghost use Rattle.model.specs.Frames.{type_octet, known, first_length, runs_past, four_length, overpacked, header_in, walk, three_packed};
-ghost use Rattle.msrpdu.specs.Reader.{type_read, head_of, strange_read, vector_read, typed_read, first_part, first_meant, message_meant, message_read, number_of, answer_of, vectors_in, event_in, four_in, stream_id_in, domain_in};
+ghost use Rattle.msrpdu.specs.Reader.{type_read, head_of, strange_read, vector_read, typed_read, first_part, first_meant, message_meant, message_read, number_of, event_in, four_in, stream_id_in, domain_in};
 
 use model::attribute::Attribute;
 use model::event::Event;
 use model::pdu;
 use model::refusal::Refusal;
 
-// What the AttributeType octet decides: a known type, or none of one whose list is skipped unread.
-#[tactic(auto, using(crate::proofs::Laws::types_read))]
-fn type_read(version: u8, octet: u8) -> Result<Option<Attribute>, Refusal>
+// What the AttributeType octet decides: a known type with the octets of its FirstValue, or none of one whose list is skipped unread.
+#[tactic(auto, unfolding(crate::specs::Reader::type_read, model::specs::Frames::type_octet, model::specs::Frames::first_length))]
+fn type_read(version: u8, octet: u8) -> Result<Option<(Attribute, usize)>, Refusal>
     ensures { result ≡ type_read (type_octet version octet) }
 {
-    match Attribute::from_octet(octet) {
-        Some(attribute) => Ok(Some(attribute)),
-        None if octet == 0 || version == 0 => Err(Refusal::AttributeType),
-        None => Ok(None),
+    match octet {
+        0 => Err(Refusal::AttributeType),
+        1 => Ok(Some((Attribute::Advertise, pdu::ADVERTISE))),
+        2 => Ok(Some((Attribute::Failed, pdu::FAILED))),
+        3 => Ok(Some((Attribute::Listener, pdu::LISTENER))),
+        4 => Ok(Some((Attribute::Domain, pdu::DOMAIN))),
+        5..=255 => {
+            if version == 0 {
+                return Err(Refusal::AttributeType);
+            }
+            Ok(None)
+        }
     }
 }
 
 // Whether one of the ThreePackedEvents octets is above 215.
+#[tactic(auto, using(crate::proofs::Laws::over_found))]
 fn any_overpacked(events: &[u8]) -> bool
     ensures { result ≡ overpacked events.now }
 {
-    events.iter().any(|octet| 215 < *octet)
+    for octet in events {
+        if 215 < *octet {
+            return true;
+        }
+    }
+    false
 }
 
 // A vector that was read: LeaveAll, the number of its values, the places of FirstValue and of its event octets, and the place
@@ -180,9 +194,10 @@ pub fn first_value_at(list: &[u8], head: VectorHead) -> &[u8]
     &list[head.first..head.three]
 }
 
-// FirstValue of what the vector reader gave, as that part of the list: empty where it refused, met the EndMark or passed over.
+// FirstValue of what the vector reader gave, as that part of the list: empty where it refused, for whatever reason, met the EndMark or
+// passed over.
 #[tactic(auto, unfolding(crate::specs::Reader::first_meant))]
-pub fn first_value(list: &[u8], read: Result<VectorRead, Refusal>) -> &[u8]
+pub fn first_value<E: Copy>(list: &[u8], read: Result<VectorRead, E>) -> &[u8]
     ensures { result.now ≡ first_meant list.now read }
 {
     let Ok(VectorRead::Vector(head)) = read else {
@@ -193,6 +208,8 @@ pub fn first_value(list: &[u8], read: Result<VectorRead, Refusal>) -> &[u8]
 
 // The vector at a place of an AttributeList of a type, in a PDU of a version: the EndMark is the list's last two octets, and the
 // values are checked last, of a vector that is not passed over.
+// Inlined in both walks, since a call and the answer stored for it take half of the work on a vector without values.
+#[inline(always)]
 pub fn attribute_vector(
     list: &[u8],
     at: usize,
@@ -246,8 +263,8 @@ fn message_header(pdu: &[u8], version: u8, at: usize) -> Result<MessageRead, Ref
             }
             Ok(MessageRead::Skipped(at + 4 + list))
         }
-        Some(attribute) => {
-            if (pdu[at + 1] as usize) != attribute.first_length() {
+        Some((attribute, first)) => {
+            if (pdu[at + 1] as usize) != first {
                 return Err(Refusal::AttributeLength);
             }
             if left < list {
@@ -285,21 +302,7 @@ pub fn message(pdu: &[u8], version: u8, at: usize) -> Result<MessageRead, Refusa
     message_header(pdu, version, at)
 }
 
-// The checked walk over an AttributeList of a type, vector by vector to its EndMark.
-fn check_list(list: &[u8], version: u8, attribute: Attribute) -> Result<(), Refusal>
-    ensures { result ≡ answer_of (vectors_in version (known (type_of attribute)) (suc (length list.now)) list.now 0) }
-{
-    let mut at: usize = 0;
-    loop {
-        match attribute_vector(list, at, version, attribute)? {
-            VectorRead::EndMark => return Ok(()),
-            VectorRead::Vector(head) => at = head.next,
-            VectorRead::PassedOver(next) => at = next,
-        }
-    }
-}
-
-// The whole checked walk: refused by the first fault met.
+// The whole checked walk: the first fault met ends both loops, by their label.
 pub fn check(pdu: &[u8]) -> Result<(), Refusal>
     ensures { answer_number result ≡ number_of (walk pdu.now) }
 {
@@ -312,12 +315,22 @@ pub fn check(pdu: &[u8]) -> Result<(), Refusal>
     }
     let version = pdu[0];
     let mut at: usize = 1;
-    loop {
-        match message(pdu, version, at)? {
-            MessageRead::End => return Ok(()),
-            MessageRead::Skipped(next) => at = next,
-            MessageRead::List(head) => {
-                check_list(&pdu[head.list..head.next], version, head.attribute)?;
+    'messages: loop {
+        match message(pdu, version, at) {
+            Err(refusal) => break 'messages Err(refusal),
+            Ok(MessageRead::End) => break 'messages Ok(()),
+            Ok(MessageRead::Skipped(next)) => at = next,
+            Ok(MessageRead::List(head)) => {
+                let list = &pdu[head.list..head.next];
+                let mut reached: usize = 0;
+                loop {
+                    match attribute_vector(list, reached, version, head.attribute) {
+                        Err(refusal) => break 'messages Err(refusal),
+                        Ok(VectorRead::EndMark) => break,
+                        Ok(VectorRead::Vector(vector)) => reached = vector.next,
+                        Ok(VectorRead::PassedOver(next)) => reached = next,
+                    }
+                }
                 at = head.next;
             }
         }

@@ -1,10 +1,13 @@
-use Rattle.std.proofs.Common.{ltb, rules, tests, sym, ◌∙◌}
-use Rattle.std.proofs.lemmas.Iterator.{YieldsList-from_slice}
-use Rattle.std.proofs.lemmas.Iterator.Search.{any_from_yields_List}
-use Rattle.msrpdu.proofs.Laws.{overpacked-any}
+-- One octet after another, and at the end none is left. What holds of a test is found and not named, since an edit changes its words.
+use Rattle.std.proofs.Common.{arith, sym, ◌∙◌, refl}
+use Rattle.msrpdu.proofs.Laws.{over_none, over-next}
 use Rattle.msrpdu.proofs.any_overpacked.Goals as goal
 
+pub loop-octet-init : goal.loop-octet-init
+loop-octet-init c = refl
+
+pub loop-octet-preserved : goal.loop-octet-preserved
+loop-octet-preserved c = sym (over-next _ _ c.loop-octet-test.true (omega arith)) ∙ c.loop-octet.invariant
+
 pub returns : goal.returns
-returns c =
-    let l = c.args.events.now in
-    any_from_yields_List (ltb 215) _ _ _ c.any.ensures.ran (YieldsList-from_slice l cc) (λ x b q k. search (rules, tests)) ∙ sym (overpacked-any l)
+returns c = sym (over_none _ _ c.loop-octet-test.false) ∙ c.loop-octet.invariant

@@ -17,12 +17,12 @@ returns-else-left-list c =
 
 pub returns-then-pdu-at : goal.returns-then-pdu-at
 returns-then-pdu-at c =
-    sym (from-length _ _ _ _ c.get-list.ensures.0 _ (sym c.type_read.ensures ∙ (c.in_ok-type_read.was ∙ ap Ok c.in-Some.is)) (rw c.first_length.ensures at c.if-pdu-at.true))
+    sym (from-length _ _ _ _ c.get-list.ensures.0 _ _ (sym c.type_read.ensures ∙ (c.in_ok-type_read.was ∙ ap Ok c.in-Some.is)) c.if-pdu-at.true)
 
 pub returns-then-left-list-2 : goal.returns-then-left-list-2
 returns-then-left-list-2 c =
-    sym (list-long _ _ _ _ c.get-list.ensures.0 _ (sym c.type_read.ensures ∙ (c.in_ok-type_read.was ∙ ap Ok c.in-Some.is)) (rw c.first_length.ensures at c.if-pdu-at.false) (omega arith))
+    sym (list-long _ _ _ _ c.get-list.ensures.0 _ _ (sym c.type_read.ensures ∙ (c.in_ok-type_read.was ∙ ap Ok c.in-Some.is)) c.if-pdu-at.false (omega arith))
 
 pub returns-else-left-list-2 : goal.returns-else-left-list-2
 returns-else-left-list-2 c =
-    sym (list_read_lem _ _ _ _ c.get-list.ensures.0 _ (sym c.type_read.ensures ∙ (c.in_ok-type_read.was ∙ ap Ok c.in-Some.is)) (rw c.first_length.ensures at c.if-pdu-at.false) (omega arith))
+    sym (list_read_lem _ _ _ _ c.get-list.ensures.0 _ _ (sym c.type_read.ensures ∙ (c.in_ok-type_read.was ∙ ap Ok c.in-Some.is)) c.if-pdu-at.false (omega arith))
