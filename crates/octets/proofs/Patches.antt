@@ -9,6 +9,7 @@ use lib.Seq.{length-take-le, take_at, drop_at, take-append-le, drop-append-le, d
 use Rattle.octets.specs.Parts.{part, patch, zeros}
 use Rattle.octets.proofs.Parts.{lent_length, length_part, patch-is}
 use Rattle.octets.proofs.Fields.{patch-behind}
+use Rattle.octets.proofs.Frame.{part-part}
 
 -- what a call leaves that was lent `&mut s[a..a + n]` and left y there
 pub lent-patch : (a n : ℕ) (y s : List ℕ) → take a s ++ (y ++ drop (a + n - a) (drop a s)) ≡ patch a n y s
@@ -64,6 +65,17 @@ patch-within a n b m y s h k =
     ∙ patch-behind x (w ++ z) y a b m e
     ∙ ap (λ (r : List ℕ). x ++ r) (patch-front w z y b m (omega arith))
     ∙ sym (ap (patch a n (patch b m y w)) (around a n s) ∙ patch-between x w z (patch b m y w) a n e f)
+
+-- what it leaves of s where the part of s was lent it that has k octets from place a on: p and q are the places in s
+pub copied-in-part : (a k from end to n p q : ℕ) (s : List ℕ) → end - from ≡ n → a + k ≤ length s → from + n ≤ k → to + n ≤ k → a + from ≡ p → a + to ≡ q
+    → let lent = take k (drop a s) in
+    take a s ++ ((take to lent ++ take (end - from) (drop from lent) ++ drop (to + (end - from)) lent) ++ drop k (drop a s)) ≡ patch q n (part p n s) s
+unfolding part patch
+copied-in-part a k from end to n p q s e h from-fits to-fits p-is q-is =
+    let lent = part a k s in
+    ap (λ (y : List ℕ). patch a k y s) (copied_within from end to n lent e)
+    ∙ sym (patch-within a k to n (part from n lent) s h to-fits)
+    ∙ rw (part-part a k from n s h from-fits, p-is, q-is)
 
 -- the part behind one that was replaced
 pub patch-next : (a n k : ℕ) (y z s : List ℕ) → length y ≡ n → a + n ≤ length s → patch (a + n) k z (patch a n y s) ≡ patch a (n + k) (y ++ z) s
