@@ -4,7 +4,7 @@ use Rattle.std.specs.Option.{option_eq}
 use Prim.Native.Nat.{ℕ, zero, suc, ◌+◌, ◌*◌, ◌/◌, ◌%◌, ◌<◌}
 use mathlib.Core.Path.{◌≡◌, refl, sym, ap, ◌∙◌}
 use mathlib.Core.List.{List, [], ◌∷◌, ◌++◌, append_assoc, append-nil}
-use mathlib.Core.Bool.{Bool, true, false}
+use mathlib.Core.Bool.{Bool, true, false, cond, not}
 use native.Mathlib.Omega.{arith}
 use native.Mathlib.Numerals.{add-one}
 use lib.ListN.{length, get_or, set, take, drop}
@@ -44,6 +44,16 @@ same-class (Some A) A = refl
 same-class (Some A) B = refl
 same-class (Some B) A = refl
 same-class (Some B) B = refl
+
+-- The class shared out is B, or else A.
+module _ (b : Bool) where
+  pub class-a : not b ≡ same_class (class_shown (Some A)) (named (cond b B A))
+  unfolding same_class class_shown named
+  class-a = elim b as (λ k. not k ≡ same_class (class_shown (Some A)) (named (cond k B A))) [ true ↦ refl | false ↦ refl ]
+
+  pub class-b : b ≡ same_class (class_shown (Some B)) (named (cond b B A))
+  unfolding same_class class_shown named
+  class-b = elim b as (λ k. k ≡ same_class (class_shown (Some B)) (named (cond k B A))) [ true ↦ refl | false ↦ refl ]
 
 -- A stream x on the port at place p, by the octets of its result there and of its settled values.
 

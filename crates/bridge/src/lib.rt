@@ -55,7 +55,7 @@ fn join_class(table: &mut [u8], p: usize, class: Class, slot: usize)
     ensures { table.new ≡ encode (with_sender p (joined_if (supports (port_at (decode table.old).settings p) (named class)) slot)
         (decode table.old)) }
 {
-    if columns::supports(table::port_at(table, p), class) {
+    if columns::supports(table::port_at(table, p), Some(class)) {
         let a = table::sender_in(table, p);
         join_slot(&mut table[a..a + table::SENDER], slot);
     }

@@ -1,13 +1,14 @@
 -- Entries and their ages, by the numbers that the code tests.
 use mathlib.Core.Path.{◌≡◌, refl, sym}
 use mathlib.Core.List.{List}
-use mathlib.Core.Bool.{Bool, true, false, cond}
+use mathlib.Core.Bool.{Bool, true, false, cond, true≢false, false≢true}
 use Prim.Native.Nat.{ℕ, zero, suc, ◌+◌, ◌/◌}
 use native.Mathlib.Omega.{arith}
 use lib.ListN.{get_or}
 use lib.Dec.{eqb, leb}
 use borrow.Author.Tests.{eq-eqb, ne_eqb, le-leb}
-use Rattle.std.specs.Prelude.{Some}
+use Rattle.std.specs.Prelude.{Option, Some, None}
+use Rattle.std.specs.Option.{is_some}
 use denote.Enum.Declared.{tag_of}
 use Rattle.columns.specs.declared.Entry as code
 use Rattle.columns.specs.declared.Entry.TheVariants.{Filter, Forward}
@@ -20,7 +21,7 @@ use Rattle.octets.specs.Be.{be_at}
 use Rattle.octets.specs.Fields.{fields}
 use Rattle.model.specs.Layout.{in_result, in_cell}
 use Rattle.model.specs.State.{Leaving, Talker, Ready, ready, ready_failed, no_listener, listener, no_entry, filters, forwards, nothing, tells}
-use Rattle.model.specs.Settling.{is_ready, registered, age_of}
+use Rattle.model.specs.Settling.{is_ready, registered, age_of, age_kept}
 use Rattle.model.specs.Table.{to_leaving, to_declared, to_entry, entry_number, to_cell, cell_from, listener_from, to_result, result_from}
 use Rattle.model.proofs.SettingsOctets.{octet-field}
 use Rattle.model.specs.WrittenFrames.{to_ready}
@@ -77,3 +78,15 @@ module _ (s : List ℕ) (now : ℕ) where
       held : (t : Bool) → elim (cond t filters forwards) [ no_entry ↦ now / 100 | filters ↦ be_at 4 s in_result.age | forwards ↦ be_at 4 s in_result.age ] ≡ be_at 4 s in_result.age
       held true = refl
       held false = refl
+
+-- of an entry, and of none
+pub kept_age : (e : Option code.Entry) (a : ℕ) → is_some e ≡ true → a ≡ age_kept (entry_shown e) a
+unfolding age_kept entry_shown
+kept_age None a h = absurd (false≢true h)
+kept_age (Some Filter) a h = refl
+kept_age (Some Forward) a h = refl
+
+pub no_age : (e : Option code.Entry) (a : ℕ) → is_some e ≡ false → 0 ≡ age_kept (entry_shown e) a
+unfolding age_kept entry_shown
+no_age None a h = refl
+no_age (Some e) a h = absurd (true≢false h)

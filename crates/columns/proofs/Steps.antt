@@ -1,13 +1,13 @@
 -- Which of the steps before h is the first that applies, by the octets that the code tests.
 use mathlib.Core.Path.{◌≡◌, refl, sym, ap, ◌∙◌}
 use mathlib.Core.List.{List, [], ◌∷◌}
-use mathlib.Core.Bool.{Bool, true, false, cond, not}
+use mathlib.Core.Bool.{Bool, true, false, cond, not, false≢true}
 use Prim.Native.Nat.{ℕ, ◌+◌, ◌/◌, ◌≤◌, ◌<◌}
 use native.Mathlib.Omega.{arith}
 use lib.ListN.{length, get_or, set}
 use lib.Seq.{get_or-set_same}
 use lib.Dec.{eqb, ltb}
-use borrow.Author.Tests.{lt-ltb, le-ltb}
+use borrow.Author.Tests.{eq-eqb, lt-ltb, le-ltb}
 use Rattle.std.specs.Prelude.{Option, Some, None}
 use Rattle.octets.specs.Be.{be_at}
 use Rattle.octets.specs.Fields.{fields}
@@ -15,6 +15,7 @@ use Rattle.model.specs.Layout.{in_cell, in_port}
 use Rattle.model.specs.Lists.{is_one}
 use Rattle.model.specs.State.{Settings, Bridge, Port, talker_advertise, talker_failed, Own, Stream, Class, no_class, class_a, class_b, no_own, no_fixed, port_at, is_port, cell_at, own_at, class_of, is_no_class, supports}
 use Rattle.model.specs.Frames.{priority_of}
+use Rattle.model.specs.Settling as model
 use Rattle.model.specs.Settling.{Scene, scene_of, boundary, source_of, fixed_of, is_talking, is_talker_failed, is_pruned, inbounds_of, shares, is_kept_out, Outcome, about, outcome_column, StepName, step_a, step_b, step_c, step_d, step_e, step_f, step_g, step_i, step_j, step_k, step_l, step_m, step_n, Step, steps_from, steps, Source, nowhere, from}
 use Rattle.model.specs.Table.{to_port, to_cell, registration_from, to_talker_type, port_from}
 use Rattle.model.specs.Why.{letter, same_step, first_name, column_by}
@@ -243,6 +244,14 @@ other_step step.K n = refl
 other_step step.L n = refl
 other_step step.M n = refl
 other_step step.N n = refl
+
+-- nothing but i, neither no step nor another one, has the letter of i
+pub none-but-i : (r : Option declared.Step) → (r ≡ Some step.I → ⊥) → letter (step_or r model.no_step) ≡ letter step_i → ⊥
+none-but-i r n e = false≢true (sym (unlike r n) ∙ unfold same_step in (eq-eqb (letter (step_or r model.no_step)) (letter step_i) e))
+  where
+    unlike : (r : Option declared.Step) → (r ≡ Some step.I → ⊥) → same_step (step_or r model.no_step) step_i ≡ false
+    unlike None n = unfold same_step letter in refl
+    unlike (Some s) n = other_step s (λ e. n (ap (λ (q : declared.Step). Some q) e))
 
 -- the own failure on every port is that in any scene of the bridge
 pub same-failure : {b : Bridge} {p : ℕ} {e : Edges} {sc : Scene} (x : Stream) (common : Option CommonFailure) → SceneOn b p e sc → common ≡ common_failure (scene_of b) x → common ≡ common_failure sc x

@@ -1,13 +1,14 @@
 -- The code's answers about steps in the words of the definitions, and a port's flags.
 use Rattle.std.specs.Prelude.{◌≡◌, Option, Some, None, List, [], ◌∷◌, Bool, false, cond}
 use Rattle.model.specs.State.{Own, Class, no_class, class_a, class_b}
-use Rattle.model.specs.Settling.{Outcome, column_none, as_registered, as_advertise, own_failure, StepName, step_a, step_b, step_c, step_d, step_e, step_f, step_g, step_h, step_i, step_j, step_k, step_l, step_m, step_n}
+use Rattle.model.specs.Settling.{Outcome, column_none, as_registered, as_advertise, own_failure, About, StepName, step_a, step_b, step_c, step_d, step_e, step_f, step_g, step_h, step_i, step_j, step_k, step_l, step_m, step_n}
 use Rattle.model.specs.Settling as model
 use Rattle.model.specs.Why.{same_step}
 use Rattle.columns.specs.declared.Step.{Step}
 use Rattle.columns.specs.declared.Step.TheVariants as step
 use Rattle.columns.specs.declared.Outcome as declared
 use Rattle.columns.specs.declared.Outcome.TheVariants.{Nothing, Registered, Admitted, Failure}
+use Rattle.columns.specs.declared.About as told
 use Rattle.columns.specs.declared.Edges.{Edges}
 
 -- the step that the code names
@@ -41,12 +42,15 @@ unfoldable pub steps_since : StepName → List model.Step → List model.Step
 steps_since n [] = []
 steps_since n (s ∷ l) = cond (same_step s.name n) (s ∷ l) (steps_since n l)
 
--- what a step gives
+-- what is told of a step
 unfoldable pub outcome_shown : declared.Outcome → Outcome
 outcome_shown Nothing = column_none
 outcome_shown Registered = as_registered
 outcome_shown Admitted = as_advertise
 outcome_shown (Failure code) = own_failure code
+
+unfoldable pub about_shown : told.About → About
+about_shown r = record { letter = r.0; outcome = outcome_shown r.1 }
 
 -- the flag of a class
 unfoldable pub edge_of : Edges → Class → Bool

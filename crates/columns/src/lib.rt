@@ -9,7 +9,7 @@ ghost use Rattle.model.specs.Layout.{cell_size, in_result, in_cell, port_size, r
 ghost use Rattle.model.specs.State as state;
 ghost use Rattle.model.specs.State.{class_latency, port_at, cell_at, own_at, failed};
 ghost use Rattle.model.specs.Settling as model;
-ghost use Rattle.model.specs.Settling.{Scene, scene_of, is_inbound, source_of, fixed_of, talker_type_of, failed_column, step_i, step_l, steps_from, steps, age_of, latency_out, entry_of, age_kept};
+ghost use Rattle.model.specs.Settling.{Scene, scene_of, is_inbound, source_of, fixed_of, talker_type_of, failed_column, no_step, step_i, step_l, steps_from, steps, age_of, latency_out, entry_of, age_kept};
 ghost use Rattle.model.specs.Why.{letter, first_name, column_by};
 ghost use Rattle.model.specs.Listeners.{declared_of};
 ghost use Rattle.model.specs.Table.{to_port, to_cell, to_result, to_entry, to_declared, entry_number, result_octets, encode, decode};
@@ -21,7 +21,7 @@ ghost use Rattle.fanin.specs.Sets.{set_to};
 ghost use Rattle.fanin.specs.Places.{SettledTo};
 ghost use Rattle.columns.specs.Stages.{shown_by, last_step, early_column, early, early_all};
 ghost use Rattle.columns.specs.Answers.{column_shown, entry_shown, talker_number, latency_place_of, size_place, column_widths, column_numbers, entry_widths, entry_size};
-ghost use Rattle.columns.specs.Steps.{step_shown, step_or, outcome_shown, steps_before, edge_of, EdgesOf};
+ghost use Rattle.columns.specs.Steps.{step_shown, step_or, outcome_shown, about_shown, steps_before, edge_of, EdgesOf};
 ghost use Rattle.columns.specs.Places.{Asked, pruned_on, SceneOn, TalkerAt, FailureAt, changed_at, early_one, early_to};
 
 use fanin::CommonFailure;
@@ -46,26 +46,18 @@ fn own_failure(table: &[u8], code: u8) -> Column
     Column::Failed(table::bridge_id(table), code)
 }
 
-// Whether a port supports a class.
-#[tactic(auto, unfolding(streams::specs::Answers::named, model::specs::State::supports, model::specs::Table::to_port, model::specs::Table::port_from, model::specs::Lists::is_one, octets::specs::Fields::fields))]
-pub fn supports(port: &[u8], class: Class) -> bool
-    requires { length port.now ≡ port_size }
-    ensures { result ≡ state.supports (to_port port.now) (named class) }
-{
-    let flags = octets::get(port, port::FLAGS, 1);
-    match class {
-        Class::A => flags / 128 == 1,
-        Class::B => flags / 64 % 2 == 1,
-    }
-}
-
-// A priority that is no class is not one that a port fails to support.
-#[tactic(auto, unfolding(streams::specs::Answers::class_shown, model::specs::State::supports))]
-fn supports_any(port: &[u8], class: Option<Class>) -> bool
+// Whether a port supports a class; a priority that is no class is not one that it fails to support.
+#[tactic(auto, unfolding(streams::specs::Answers::class_shown, streams::specs::Answers::named, model::specs::State::supports, model::specs::Table::to_port, model::specs::Table::port_from, model::specs::Lists::is_one, octets::specs::Fields::fields))]
+pub fn supports(port: &[u8], class: Option<Class>) -> bool
     requires { length port.now ≡ port_size }
     ensures { result ≡ state.supports (to_port port.now) (class_shown class) }
 {
-    class.is_none_or(|c| supports(port, c))
+    let flags = octets::get(port, port::FLAGS, 1);
+    match class {
+        None => true,
+        Some(Class::A) => flags / 128 == 1,
+        Some(Class::B) => flags / 64 % 2 == 1,
+    }
 }
 
 // The steps of settling (01, "Settling"; 02, ix) by their letters in ASCII.
@@ -125,6 +117,21 @@ impl Step {
             Step::M => Outcome::Failure(CommonFailure::FanIn as u8),
             Step::N => Outcome::Nothing,
         }
+    }
+}
+
+// The letter of a step in ASCII, 0 for none, and what it gives.
+#[derive(Clone, Copy)]
+pub struct About(pub u8, pub Outcome);
+
+// Each step's letter and outcome, and those of none.
+#[tactic(auto, unfolding(crate::specs::Steps::outcome_shown, crate::specs::Steps::about_shown, model::specs::Why::letter))]
+pub fn describe(step: Option<Step>) -> About
+    ensures { about_shown result ≡ model.about (step_or step no_step) }
+{
+    match step {
+        None => About(0, Outcome::Nothing),
+        Some(named) => About(named.letter(), named.outcome()),
     }
 }
 
@@ -204,7 +211,7 @@ fn first_step(
         return Some(Step::A);
     }
     let class = streams::class_of(table, octets::get(said, cell::PRIORITY, 1) / 32);
-    if !supports_any(table::port_at(table, p), class) {
+    if !supports(table::port_at(table, p), class) {
         return Some(Step::B);
     }
     if own.pruned {
@@ -359,7 +366,7 @@ fn latency_out(table: &[u8], k: usize, p: usize, t: usize) -> u64
 
 // The entries of Table 35-12, which may be none.
 #[derive(Clone, Copy)]
-enum Entry {
+pub enum Entry {
     Filter = 1,
     Forward = 2,
 }
@@ -389,24 +396,18 @@ fn entry_number(entry: Option<Entry>) -> u64
     entry.map_or(0, |kind| kind as u64)
 }
 
-// The second that an entry's age is counted from: that of the result before, or this one where there was no entry.
-pub fn age_of(res: &[u8], time: u32) -> u64
+// The second that an entry's age is counted from: that of the result before, or this one where there was no entry; 0 of none.
+pub fn age_of(res: &[u8], entry: Option<Entry>, time: u32) -> u64
     requires { length res.now ≡ result_size }
-    ensures { (result ≡ age_of time (to_result res.now)) × (result < 2 ^ 32) }
+    ensures { (result ≡ age_kept (entry_shown entry) (age_of time (to_result res.now))) × (result < 2 ^ 32) }
 {
+    if entry.is_none() {
+        return 0;
+    }
     if res[result::ENTRY] == 0 {
         return (time / 100) as u64;
     }
     octets::get(res, result::AGE, 4)
-}
-
-// The age of an entry, 0 of none.
-#[tactic(auto, unfolding(crate::specs::Answers::entry_shown, model::specs::Settling::age_kept))]
-fn age_kept(res: &[u8], entry: Option<Entry>, time: u32) -> u64
-    requires { length res.now ≡ result_size }
-    ensures { result ≡ age_kept (entry_shown entry) (age_of time (to_result res.now)) }
-{
-    entry.map_or(0, |_| age_of(res, time))
 }
 
 // The number of what a column declares of a Talker: 0 none, 1 Advertise, 2 Failed.
@@ -480,7 +481,7 @@ fn write_result(
     ensures { res.new ≡ result_octets (shown_by (column_shown column) latency (declared_of listener) time (to_result res.old)) }
 {
     let entry = entry_of(column, listener);
-    let age = age_kept(res, entry, time);
+    let age = age_of(res, entry, time);
     write_column(res, column, latency);
     write_entry(res, entry, age);
 }

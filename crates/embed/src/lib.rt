@@ -112,7 +112,7 @@ pub extern "C" fn srp_why(
     match bridge::why(table, id, port, buffer) {
         Ok(why) => {
             *explained = [
-                why::letter(why.step) as u64,
+                why::letter(Some(why.step)) as u64,
                 why.count as u64,
                 why.limit,
                 why.shortfall,

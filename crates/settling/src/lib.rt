@@ -15,7 +15,7 @@ ghost use Rattle.model.specs.Table.{column_number, to_result, result_octets, to_
 ghost use Rattle.model.specs.Laid.{LaidResult, LaidOwn, Laid};
 ghost use Rattle.table.specs.Places.{Stands, StandsOn, PortIn};
 ghost use Rattle.table.specs.Updates.{with_stream, with_sends, with_own, with_sender};
-ghost use Rattle.streams.specs.Answers.{named};
+ghost use Rattle.streams.specs.Answers.{class_shown};
 ghost use Rattle.columns.specs.Stages as stages;
 ghost use Rattle.declaring.specs.Octets.{offered_octets, timed};
 ghost use Rattle.settling.specs.Removed.{unmatched_of, expired_own, flagged_own, removed};
@@ -52,9 +52,9 @@ fn expire_all(table: &mut [u8], time: u32)
 }
 
 // Whether some port of the bridge supports a class.
-fn any_supports(table: &[u8], class: Class) -> bool
+fn any_supports(table: &[u8], class: Option<Class>) -> bool
     requires { Laid table.now }
-    ensures { result ≡ model.any_supports (named class) (decode table.now).settings.ports }
+    ensures { result ≡ model.any_supports (class_shown class) (decode table.now).settings.ports }
 {
     let ports = table::ports(table);
     for p in 0..ports {
@@ -66,21 +66,22 @@ fn any_supports(table: &[u8], class: Class) -> bool
 }
 
 // Whether the Domain values of a class on the port at place p are other than the bridge's; class ID 5 stands before 6.
-fn unmatched(table: &[u8], p: usize, class: Class) -> bool
+fn unmatched(table: &[u8], p: usize, class: Option<Class>) -> bool
     requires { PortIn table.now p }
-    ensures { result ≡ unmatched_of (decode table.now).settings (named class) (own_at (decode table.now).owns p).domains }
+    ensures { result ≡ unmatched_of (decode table.now).settings (class_shown class) (own_at (decode table.now).owns p).domains }
 {
     let own = table::own_at(table, p);
     match class {
-        Class::A => domains::unmatched(own, 8, table::priority_a(table)),
-        Class::B => domains::unmatched(own, 0, table::priority_b(table)),
+        None => true,
+        Some(Class::A) => domains::unmatched(own, 8, table::priority_a(table)),
+        Some(Class::B) => domains::unmatched(own, 0, table::priority_b(table)),
     }
 }
 
 // Whether the port at place p is at the edge of a class's domain; a place that is no port is not.
-pub fn flag(table: &[u8], p: usize, class: Class) -> bool
+pub fn flag(table: &[u8], p: usize, class: Option<Class>) -> bool
     requires { PortIn table.now p }
-    ensures { result ≡ model.flag_of (decode table.now).settings p (named class) (own_at (decode table.now).owns p).domains }
+    ensures { result ≡ model.flag_of (decode table.now).settings p (class_shown class) (own_at (decode table.now).owns p).domains }
 {
     if table::ports(table) <= p {
         return false;
@@ -117,8 +118,8 @@ fn decide_flags(table: &mut [u8], p: usize)
     ensures { table.new ≡ encode (with_own p (flagged_own (decode table.old).settings p (own_at (decode table.old).owns p))
         (decode table.old)) }
 {
-    let edge_a = flag(table, p, Class::A);
-    let edge_b = flag(table, p, Class::B);
+    let edge_a = flag(table, p, Some(Class::A));
+    let edge_b = flag(table, p, Some(Class::B));
     let a = table::own_in(table, p);
     domains::set_flags(&mut table[a..a + table::OWN], edge_a, edge_b);
 }

@@ -66,13 +66,34 @@ impl Class {
     }
 }
 
-// A demand as a rate of a class.
-#[tactic(auto, using(crate::proofs::Demands::rate_is, crate::proofs::Demands::bits_bound))]
+// A demand as a rate of class A.
+#[tactic(auto, using(crate::proofs::Demands::rate_is, crate::proofs::Demands::bits_bound), unfolding(crate::specs::Answers::named, model::specs::Bandwidth::rate_of))]
+pub fn rate_of_a(d: PerInterval) -> PerSecond
+    requires { d.0 < 2 ^ 34 }
+    ensures { (result.0 ≡ (bandwidth.rate_of_a (record { octets = d.0 })).bits) × (result.0 < 2 ^ 50) }
+{
+    PerSecond(d.0 * 8 * Class::A.intervals())
+}
+
+// The same of class B.
+#[tactic(auto, using(crate::proofs::Demands::rate_is, crate::proofs::Demands::bits_bound), unfolding(crate::specs::Answers::named, model::specs::Bandwidth::rate_of))]
+pub fn rate_of_b(d: PerInterval) -> PerSecond
+    requires { d.0 < 2 ^ 34 }
+    ensures { (result.0 ≡ (bandwidth.rate_of_b (record { octets = d.0 })).bits) × (result.0 < 2 ^ 50) }
+{
+    PerSecond(d.0 * 8 * Class::B.intervals())
+}
+
+// The same of a class.
+#[tactic(auto, unfolding(crate::specs::Answers::named, model::specs::Bandwidth::rate_of))]
 pub fn rate(d: PerInterval, class: Class) -> PerSecond
     requires { d.0 < 2 ^ 34 }
     ensures { (result.0 ≡ (rate_of (named class) (record { octets = d.0 })).bits) × (result.0 < 2 ^ 50) }
 {
-    PerSecond(d.0 * 8 * class.intervals())
+    match class {
+        Class::A => rate_of_a(d),
+        Class::B => rate_of_b(d),
+    }
 }
 
 // The class of a priority; not every priority has one.

@@ -4,7 +4,7 @@ use mathlib.Core.Bool.{true, false}
 use borrow.Author.Rules.{rules}
 use Rattle.model.specs.State.{Port, port_at, supports}
 use Rattle.model.specs.Table.{decode}
-use Rattle.streams.specs.Answers.{named}
+use Rattle.streams.specs.Answers.{named, class_shown}
 use Rattle.table.proofs.SenderParts.{lent-sender-at, left-sender-at}
 use Rattle.bridge.specs.Joining.{joined_slot}
 use Rattle.bridge.proofs.Joining.{none-joined, one-joined}
@@ -18,6 +18,7 @@ join-slot-requires c κs =
     (r.laid, r.size, first.requires.1)
 
 returns : tie.Need-returns-then-supports
+unfolding class_shown
 returns c =
     let first = c.before.before.before.before.before.before.before.before.before in
     let k = named first.args.class in
@@ -27,6 +28,7 @@ returns c =
     (left-sender-at first.requires.0 _ c.sender_in-a.ensures.0 (joined_slot first.args.slot) _ c.join_slot.ensures)
 
 returns-2 : tie.Need-returns-else-supports
+unfolding class_shown
 returns-2 c =
     let first = c.before.before.before.before in
     let k = named first.args.class in

@@ -8,4 +8,4 @@ returns c =
     let a = c.args in
     rw (c.write_entry.ensures, c.write_column.ensures)
     (result-put (column_shown a.column) a.latency (declared_of a.listener) a.time _ _ a.res.now c.requires c.entry_of-entry.ensures
-    c.age_kept-age.ensures)
+    c.age_of-age.ensures.0)

@@ -1,7 +1,7 @@
 use Rattle.std.proofs.Common.{◌≡◌, refl, sym, ap, ◌∙◌, length, arith}
 use Rattle.model.specs.State.{Port, supports}
 use Rattle.model.specs.Table.{decode}
-use Rattle.streams.specs.Answers.{named}
+use Rattle.streams.specs.Answers.{class_shown}
 use Rattle.settling.proofs.Edges.{supported-here, unsupported-next, no-port-left}
 use Rattle.settling.proofs.any_supports.Goals as goal
 
@@ -14,14 +14,14 @@ port_at-requires c = record { laid = c.requires; port = omega (arith, c.ports-po
 pub returns-then-supports : goal.returns-then-supports
 returns-then-supports c =
     let l = c.loop-p in
-    let k = named c.args.class in
+    let k = class_shown c.args.class in
     let e = sym (ap (λ (q : Port). supports q k) c.port_at.ensures.is) ∙ sym c.supports.ensures ∙ c.if-supports.true in
     sym (supported-here (decode c.args.table.now).settings k l.p (omega (arith, c.ports-ports.ensures)) e) ∙ l.invariant
 
 pub loop-p-preserved : goal.loop-p-preserved
 loop-p-preserved c =
     let l = c.loop-p in
-    let k = named c.args.class in
+    let k = class_shown c.args.class in
     let e = sym (ap (λ (q : Port). supports q k) c.port_at.ensures.is) ∙ sym c.supports.ensures ∙ c.if-supports.false in
     sym (unsupported-next (decode c.args.table.now).settings k l.p (omega (arith, c.ports-ports.ensures)) e) ∙ l.invariant
 
@@ -29,4 +29,4 @@ pub returns : goal.returns
 returns c =
     let st = (decode c.args.table.now).settings in
     let e : c.loop-p.p ≡ length st.ports = omega (arith, c.ports-ports.ensures) in
-    sym (no-port-left st (named c.args.class)) ∙ (rw e at c.loop-p.invariant)
+    sym (no-port-left st (class_shown c.args.class)) ∙ (rw e at c.loop-p.invariant)

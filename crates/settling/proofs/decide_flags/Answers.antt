@@ -5,7 +5,7 @@ use Rattle.model.specs.Settling.{flag_of}
 use Rattle.model.specs.Table.{encode, decode}
 use Rattle.table.specs.Updates.{with_own}
 use Rattle.table.proofs.OwnParts.{lent-own-at, left-own-at}
-use Rattle.streams.specs.Answers.{named}
+use Rattle.streams.specs.Answers.{named, class_shown}
 use Rattle.domains.specs.Classes.{flagged}
 use Rattle.settling.proofs.decide_flags.Goals as goal
 
@@ -15,7 +15,7 @@ set_flags-requires c =
     (r.laid, r.size)
 
 pub returns : goal.returns
-unfolding named
+unfolding named class_shown
 returns c =
     let b = decode c.args.table.now in
     let p = c.args.p in

@@ -6,7 +6,7 @@ use borrow.Author.Rules.{rules}
 use lib.ListN.{length}
 use Rattle.model.specs.State.{Port, own_at, supports}
 use Rattle.model.specs.Table.{decode}
-use Rattle.streams.specs.Answers.{named}
+use Rattle.streams.specs.Answers.{class_shown}
 use Rattle.settling.proofs.Edges.{no_flag, supported-flag, unsupported-flag}
 use Rattle.settling.proofs.flag.Statement.{statement}
 use Rattle.settling.proofs.flag.Tie as tie
@@ -16,14 +16,14 @@ returns c =
     let first = c.before.before.before in
     let b = decode first.args.table.now in
     let p = first.args.p in
-    sym (no_flag b.settings p (named first.args.class) (own_at b.owns p).domains (omega (arith, c.ports.ensures.0, c.if-ports-p.true)))
+    sym (no_flag b.settings p (class_shown first.args.class) (own_at b.owns p).domains (omega (arith, c.ports.ensures.0, c.if-ports-p.true)))
 
 returns-2 : tie.Need-returns-then-supports
 returns-2 c =
     let first = c.before.before.before.before.before.before.before in
     let b = decode first.args.table.now in
     let p = first.args.p in
-    let k = named first.args.class in
+    let k = class_shown first.args.class in
     let h : p < length b.settings.ports = omega (arith, c.ports.ensures.0, c.if-ports-p.false) in
     let e = sym (ap (λ (q : Port). supports q k) c.port_at.ensures.is) ∙ sym c.supports.ensures ∙ c.if-supports.true in
     c.unmatched.ensures ∙ sym (supported-flag b.settings p k (own_at b.owns p).domains h e)
@@ -33,7 +33,7 @@ returns-3 c =
     let first = c.before.before.before.before.before.before.before in
     let b = decode first.args.table.now in
     let p = first.args.p in
-    let k = named first.args.class in
+    let k = class_shown first.args.class in
     let h : p < length b.settings.ports = omega (arith, c.ports.ensures.0, c.if-ports-p.false) in
     let e = sym (ap (λ (q : Port). supports q k) c.port_at.ensures.is) ∙ sym c.supports.ensures ∙ c.if-supports.false in
     c.any_supports.ensures ∙ sym (unsupported-flag b.settings p k (own_at b.owns p).domains h e)
