@@ -1,11 +1,11 @@
 -- An Applicant read from its octet: the table's entries are those of the octet, also above 6, and up to 6 the octet is read back.
 use mathlib.Core.Path.{◌≡◌, refl, sym, ap}
-use mathlib.Core.Bool.{Bool}
+use mathlib.Core.Bool.{Bool, false}
 use Prim.Native.Nat.{ℕ, zero, suc, ◌≤◌}
 use native.Mathlib.Omega.{arith}
 use lib.Dec.{eqb}
 use borrow.Author.Tests.{ne_eqb}
-use Rattle.model.specs.Applicant.{ApplicantState, ApplicantEvent, applicant_entry, state_of, octet_of, step}
+use Rattle.model.specs.Applicant.{ApplicantState, ApplicantEvent, applicant_entry, is_written, message_number, state_of, octet_of, step, asks, event_at}
 use denote.Enum.Declared.{tag_of}
 use Rattle.applicants.specs.contracts.Applicant.{the_type}
 use Rattle.applicants.specs.declared.Applicant.{Applicant}
@@ -25,6 +25,14 @@ state-read (suc (suc (suc (suc (suc (suc n)))))) = refl
 pub step_read : (r : Bool) (e : ApplicantEvent) (n : ℕ) → step r e (octet (applicant n)) ≡ step r e n
 unfolding step
 step_read r e n = ap (λ (x : ApplicantState). octet_of (applicant_entry r e x).next) (state-read n)
+
+pub asks_read : (e : ApplicantEvent) (n : ℕ) → asks e (octet (applicant n)) ≡ asks e n
+unfolding asks
+asks_read e n = ap (λ (x : ApplicantState). is_written (applicant_entry false e x).sends) (state-read n)
+
+pub event_read : (r : Bool) (e : ApplicantEvent) (n : ℕ) → event_at r e (octet (applicant n)) ≡ event_at r e n
+unfolding event_at
+event_read r e n = ap (λ (x : ApplicantState). message_number r (applicant_entry r e x).sends) (state-read n)
 
 pub none_read : (n : ℕ) → eqb (octet (applicant n)) 0 ≡ eqb n 0
 unfolding applicant

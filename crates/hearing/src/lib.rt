@@ -11,6 +11,7 @@ ghost use Rattle.model.specs.Registrations.{of_domain, hear_domain, hears, hears
 ghost use Rattle.model.specs.Sending.{sends_octets, to_sends, sender_octets, to_sender};
 ghost use Rattle.model.specs.Laid.{LaidSends, LaidSender};
 ghost use Rattle.applicants.specs.Octets.{octet};
+ghost use Rattle.cells.specs.Acts.{kind_at};
 ghost use Rattle.hearing.specs.Hears.{meant, heard_at, heard_by_all};
 
 use applicants::Applicant;
@@ -49,7 +50,7 @@ fn hear_at(sent: &mut [u8], at: usize, heard: Heard)
 
 // What is heard of a stream, by the Applicant of an AttributeType on a port.
 #[tactic(auto, using(crate::proofs::OfStream::sends_hear))]
-pub fn hear(sends: &mut [u8], attribute: StreamAttribute, heard: Heard)
+pub fn hear_of(sends: &mut [u8], attribute: StreamAttribute, heard: Heard)
     requires { LaidSends sends.old × (length sends.old ≡ sends_size) }
     ensures { sends.new ≡ sends_octets (hears (kind_of attribute) (meant heard) (to_sends sends.old)) }
 {
@@ -57,6 +58,27 @@ pub fn hear(sends: &mut [u8], attribute: StreamAttribute, heard: Heard)
         StreamAttribute::Talker(TalkerAttribute::Advertise) => hear_at(sends, ADVERTISING, heard),
         StreamAttribute::Talker(TalkerAttribute::Failed) => hear_at(sends, FAILING, heard),
         StreamAttribute::Listener => hear_at(sends, LISTENING, heard),
+    }
+}
+
+// The same by the octet of an AttributeType: 1 and 2 are those of a Talker, any other is the Listener's.
+#[tactic(auto, unfolding(cells::specs::Acts::kind_at))]
+pub fn hear(sends: &mut [u8], kind: u8, heard: Heard)
+    requires { LaidSends sends.old × (length sends.old ≡ sends_size) }
+    ensures { sends.new ≡ sends_octets (hears (kind_at kind) (meant heard) (to_sends sends.old)) }
+{
+    match kind {
+        1 => hear_of(
+            sends,
+            StreamAttribute::Talker(TalkerAttribute::Advertise),
+            heard,
+        ),
+        2 => hear_of(
+            sends,
+            StreamAttribute::Talker(TalkerAttribute::Failed),
+            heard,
+        ),
+        _ => hear_of(sends, StreamAttribute::Listener, heard),
     }
 }
 

@@ -13,7 +13,7 @@ use borrow.Author.Tests.{eq-eqb, ne_eqb}
 use Rattle.octets.specs.Parts.{patch, zeros}
 use Rattle.octets.proofs.Fields.{patch-behind}
 use Rattle.model.specs.Lists.{bit}
-use Rattle.model.specs.Applicant.{ApplicantState, vo, vp, vn, an, aa, qa, la, lo, ApplicantEvent, tx_laf, opportunity, ApplicantEntry, applicant_row, applicant_column, to, applicant_entry, Standing, named, standing, becomes, state_of, octet_of, step}
+use Rattle.model.specs.Applicant.{ApplicantState, vo, vp, vn, an, aa, qa, la, lo, ApplicantEvent, tx_la, tx_laf, opportunity, ApplicantEntry, applicant_row, applicant_column, to, applicant_entry, Standing, named, standing, becomes, state_of, octet_of, step}
 use Rattle.model.specs.Machines.{Applicant, no_applicant, applicant, with, applicant_of, moved}
 use Rattle.model.specs.Settling.{is_applicant}
 use Rattle.model.specs.Writing.{moved_at}
@@ -55,6 +55,9 @@ none-stepped false false = (refl, refl)
 row-alike : (r : Bool) (e : ApplicantEvent) → applicant_row r e ≡ applicant_row false e → (n : ℕ) → step r e n ≡ step false e n
 unfolding step applicant_entry
 row-alike r e h n = ap (λ (row : List ApplicantEntry). octet_of (get_or row (applicant_column (state_of n)) (to (state_of n))).next) h
+
+pub leaving-all-alike : (r : Bool) (n : ℕ) → step r tx_la n ≡ step false tx_la n
+leaving-all-alike r n = row-alike r tx_la (unfold applicant_row in refl) n
 
 pub left_out_alike : (r : Bool) (n : ℕ) → step r tx_laf n ≡ step false tx_laf n
 left_out_alike r n = row-alike r tx_laf (unfold applicant_row in refl) n

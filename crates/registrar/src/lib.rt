@@ -160,7 +160,7 @@ fn hear_sends(table: &mut [u8], k: usize, p: usize, attribute: StreamAttribute, 
     ensures { table.new ≡ encode (with_sends k p (hears (kind_of attribute) (meant heard)) (decode table.old)) }
 {
     let a = table::sends_in(table, k, p);
-    hearing::hear(&mut table[a..a + table::SENDS], attribute, heard);
+    hearing::hear_of(&mut table[a..a + table::SENDS], attribute, heard);
 }
 
 // The same by its StreamID: a stream that is not held has no Applicant.
