@@ -32,9 +32,12 @@ unfoldable pub buffer_text : ℕ → List ℕ → List ℕ
 buffer_text n s = kept_text (filled (drop (min n (length s)) s)) ++ octets_text (take (min n (length s)) s)
 
 -- write N LENGTH NEXT KEPT HEX
+unfoldable pub write_text : ℕ → ℕ → ℕ → List ℕ → List ℕ
+write_text number long next s = numbers_text (119 ∷ 114 ∷ 105 ∷ 116 ∷ 101 ∷ []) (number ∷ long ∷ next ∷ []) ++ buffer_text long s
+
+-- the same of an answer
 unfoldable pub written_text : Result Wrote Refusal → List ℕ → List ℕ
-written_text a s =
-    numbers_text (119 ∷ 114 ∷ 105 ∷ 116 ∷ 101 ∷ []) (answer_number a ∷ length_of a ∷ next_of a ∷ []) ++ buffer_text (length_of a) s
+written_text a s = write_text (answer_number a) (length_of a) (next_of a) s
 
 -- report N COUNT TOTALA LIMITA TOTALB LIMITB ID COLUMN CODE LISTENER ENTRY
 unfoldable pub reported_text : Report → List ℕ

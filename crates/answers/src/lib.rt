@@ -2,15 +2,17 @@
 // arguments: what does not fit is left out.
 #![tactic(auto)]
 
-ghost use Rattle.std.specs.Prelude.{◌≡◌, length, drop, ◌++◌};
+ghost use Rattle.std.specs.Prelude.{◌≡◌, ℕ, List, length, drop, ◌++◌};
 ghost use Rattle.model.specs.Numbers.{answer_number};
 ghost use Rattle.console.specs.Texts.{Puts};
 ghost use Rattle.reports.specs.Shown.{answered};
 ghost use Rattle.why.specs.Shown.{why_answered};
 ghost use Rattle.answers.specs.Sums.{adler32, filled};
-ghost use Rattle.answers.specs.Lines.{numbers_text, octets_text, kept_text, buffer_text, step_text, written_text, reported_text, explained_text, sum_text};
+ghost use Rattle.answers.specs.Parts.{report_of, why_of};
+ghost use Rattle.answers.specs.Lines.{numbers_text, octets_text, kept_text, buffer_text, write_text, step_text, written_text, reported_text, explained_text, sum_text};
 
 use bridge::Wrote;
+use columns::Step;
 use console::Text;
 use model::refusal::Refusal;
 use reports::Reported;
@@ -85,40 +87,63 @@ fn put_buffer(text: &mut Text<'_>, length: usize, buffer: &[u8])
 }
 
 // The number that a call gives back.
-fn number_of<T>(answer: &Result<T, Refusal>) -> u64
+fn number_of<T>(answer: &Result<T, Refusal>) -> u8
     ensures { result ≡ answer_number answer.now }
 {
     match answer {
         Ok(_) => 0,
-        Err(refusal) => *refusal as u64,
+        Err(refusal) => *refusal as u8,
     }
 }
 
-// The line of a write.
-pub fn put_written(text: &mut Text<'_>, answer: Result<Wrote, Refusal>, buffer: &[u8])
-    ensures { Puts text.old (written_text answer buffer.now) text.new }
+// The line of a write, of any number and any parts beside it.
+pub fn put_write(text: &mut Text<'_>, number: u8, wrote: Wrote, buffer: &[u8])
+    ensures { Puts text.old (write_text number wrote.length wrote.next buffer.now) text.new }
 {
-    let number = number_of(&answer);
-    let wrote = answer.unwrap_or_default();
-    let numbers = [number, wrote.length as u64, wrote.next as u64];
+    let numbers = [number as u64, wrote.length as u64, wrote.next as u64];
     put_numbers(text, b"write", &numbers);
     put_buffer(text, wrote.length, buffer);
 }
 
-// The line of a report: the streams held, the port's class totals and limits, and the stream at the place.
-pub fn put_reported(text: &mut Text<'_>, answer: Result<Reported, Refusal>)
-    ensures { Puts text.old (reported_text (answered answer)) text.new }
+// The line of what a write answers.
+pub fn put_written(text: &mut Text<'_>, answer: Result<Wrote, Refusal>, buffer: &[u8])
+    ensures { Puts text.old (written_text answer buffer.now) text.new }
 {
     let number = number_of(&answer);
-    let report = answer.unwrap_or_default();
+    put_write(text, number, answer.unwrap_or_default(), buffer);
+}
+
+// The line of a report, of any number and any parts beside it: the streams held, the port's class totals and limits, and the stream at
+// the place.
+pub fn put_report(text: &mut Text<'_>, number: u8, report: Reported)
+    ensures { Puts text.old (reported_text (report_of number report)) text.new }
+{
     let a = report.port.a;
     let b = report.port.b;
     let count = report.count as u64;
-    let numbers = [number, count, a.total, a.limit, b.total, b.limit];
+    let numbers = [number as u64, count, a.total, a.limit, b.total, b.limit];
     put_numbers(text, b"report", &numbers);
     text.put(b" ");
     text.put_id(report.stream.id);
     console::put_shown(text, report.stream);
+}
+
+// The line of what a report answers.
+pub fn put_reported(text: &mut Text<'_>, answer: Result<Reported, Refusal>)
+    ensures { Puts text.old (reported_text (answered answer)) text.new }
+{
+    let number = number_of(&answer);
+    put_report(text, number, answer.unwrap_or_default());
+}
+
+// What the line of a why says between its number and its list: the step or none, how many streams are listed, the limit in force and
+// the shortfall.
+#[derive(Clone, Copy, Default)]
+pub struct WhyParts {
+    pub step: Option<Step>,
+    pub count: usize,
+    pub limit: u64,
+    pub shortfall: u64,
 }
 
 // The letter of the deciding step, or none, and numbers behind it.
@@ -131,22 +156,37 @@ fn put_step(text: &mut Text<'_>, letter: u8, numbers: &[u64])
     put_numbers(text, &[b' ', letter], numbers);
 }
 
-// The line of a why: the step, how many streams are listed, the limit in force, the shortfall, and the list of no more than 63 streams.
+// The line of a why, of any number and any parts beside it: its list is of no more than 63 streams.
+pub fn put_why(text: &mut Text<'_>, number: u8, why: WhyParts, buffer: &[u8])
+    ensures { Puts text.old (explained_text (why_of number why buffer.now)) text.new }
+{
+    let numbers = [why.count as u64, why.limit, why.shortfall];
+    put_numbers(text, b"why", &[number as u64]);
+    put_step(text, why::letter(why.step), &numbers);
+    put_buffer(text, why.count.min(63) * 16, buffer);
+}
+
+// The parts of what a why answers.
+fn parts_of(answer: Result<Why, Refusal>) -> WhyParts
+    ensures { (buffer : List ℕ) → why_of (answer_number answer) result buffer ≡ why_answered answer buffer }
+{
+    match answer {
+        Ok(why) => WhyParts {
+            step: Some(why.step),
+            count: why.count,
+            limit: why.limit,
+            shortfall: why.shortfall,
+        },
+        Err(_) => WhyParts::default(),
+    }
+}
+
+// The line of what a why answers.
 pub fn put_explained(text: &mut Text<'_>, answer: Result<Why, Refusal>, buffer: &[u8])
     ensures { Puts text.old (explained_text (why_answered answer buffer.now)) text.new }
 {
-    put_numbers(text, b"why", &[number_of(&answer)]);
-    match answer {
-        Ok(why) => {
-            let numbers = [why.count as u64, why.limit, why.shortfall];
-            put_step(text, why::letter(why.step), &numbers);
-            put_buffer(text, why.count.min(63) * 16, buffer);
-        }
-        Err(_) => {
-            put_step(text, 0, &[0, 0, 0]);
-            put_buffer(text, 0, buffer);
-        }
-    }
+    let number = number_of(&answer);
+    put_why(text, number, parts_of(answer), buffer);
 }
 
 // Adler-32 (RFC 1950).

@@ -19,18 +19,17 @@ use Rattle.octets.proofs.Fields.{flat_append}
 use Rattle.io.specs.Digits.{last_digits, IsDigitCount}
 use Rattle.console.specs.Text.{start_of, fitting, put_in, Put, decimal_in}
 
--- what copying the part of a text that fits into the part of the line behind its end leaves
-pub put-made : (line text y : List ℕ) (end n : ℕ) → end ≤ length line → n ≡ min (length text) (length line - end) → y ≡ take n text
-    → Put line end text (end + n) (take end line ++ (y ++ drop (end + n - end) (drop end line)))
+-- what copying the part of a text that fits into the part of the line behind its start leaves
+pub put-made : (line text y : List ℕ) (at from n : ℕ) → from ≡ min at (length line) → n ≡ min (length text) (length line - from) → y ≡ take n text
+    → Put line at text (from + n) (take from line ++ (y ++ drop (from + n - from) (drop from line)))
 unfolding start_of fitting put_in
-put-made line text y end n a b e =
-    let start : min end (length line) ≡ end = omega arith in
+put-made line text y at from n a b e =
     let l : length (take n text) ≡ n = length-take-le n text (omega arith) in
-    let w = lent-patch end n y line ∙ ap (λ (t : List ℕ). patch end n t line) e in
+    let w = lent-patch from n y line ∙ ap (λ (t : List ℕ). patch from n t line) e in
     record {
-      end_is = rw (start, ← b);
-      line_is = w ∙ rw (start, ← b);
-      within = rw (w, length-patch end n (take n text) line l (omega arith)) (omega arith);
+      end_is = rw (← a, ← b);
+      line_is = w ∙ rw (← a, ← b);
+      within = rw (w, length-patch from n (take n text) line l (omega arith)) (omega arith);
     }
 
 -- nothing

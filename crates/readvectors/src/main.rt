@@ -22,6 +22,8 @@ fn digit(c: u8) -> u8
 }
 
 // The octets that a text gives, put into out: how many there are.
+// Not inlined, since the compiler would step this loop's places in the search for the colon too, at each octet of a remark.
+#[inline(never)]
 fn octets_of(text: &[u8], out: &mut [u8]) -> usize
     ensures { result ≤ length out.old }
 {

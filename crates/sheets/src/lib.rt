@@ -5,7 +5,6 @@
 ghost use Rattle.std.specs.Prelude.{◌≡◌, ◌≤◌, length};
 ghost use Rattle.console.specs.Texts.{Puts};
 ghost use Rattle.model.specs.Layout.{table_length};
-ghost use Rattle.model.specs.Numbers.{answer_number};
 ghost use Rattle.model.specs.Table.{ports_field};
 ghost use Rattle.model.specs.Calls.{report_on};
 ghost use Rattle.sheets.specs.Lines.{class_text, classes_text, port_text, port_line, stream_text, stream_line, refused_line, stop_line};
@@ -14,7 +13,7 @@ ghost use Rattle.sheets.specs.Sheet.{port_lines, stream_on_ports, stream_lines, 
 ghost use Rattle.sheets.specs.Promises.{Took, CalledAll, Printed};
 
 use console::Text;
-use model::refusal::Refusal;
+use model::refusal::{self, Refusal};
 use reports::{ClassShown, PortShown};
 
 // Octets of a text: no sheet of an input of 65,536 octets is longer.
@@ -96,12 +95,12 @@ fn put_refused(text: &mut Text<'_>, number: u8)
     text.put(b"\n");
 }
 
-// The line of a call that was refused; nothing for one that was not.
-pub fn put_answer(text: &mut Text<'_>, answer: Result<(), Refusal>)
-    ensures { Puts text.old (answer_text (answer_number answer)) text.new }
+// The line of a call that was refused, by the number that it gave back; nothing for one that was not.
+pub fn put_answer(text: &mut Text<'_>, number: u8)
+    ensures { Puts text.old (answer_text number) text.new }
 {
-    if let Err(refusal) = answer {
-        put_refused(text, u8::from(refusal));
+    if number != 0 {
+        put_refused(text, number);
     }
 }
 
@@ -186,7 +185,7 @@ pub fn call_all(table: &mut [u8], records: &[u8], text: &mut Text<'_>)
         let Some(done) = call(table, rest) else {
             return put_stop(text);
         };
-        put_answer(text, done.answer);
+        put_answer(text, refusal::number(done.answer));
         rest = &rest[done.size..];
     }
 }

@@ -45,7 +45,7 @@ fn fill(rt: &HostRuntime, octets: &mut [u8]) -> Result<(), Ending> {
     rt.stdin().read_exact(octets).map_err(|_| Ending::Stop)
 }
 
-// A field of a record.
+// A field of a record, or all of its fields: each call reads from the system, so the fields of a record are read in one.
 fn field<const N: usize>(rt: &HostRuntime) -> Result<[u8; N], Ending> {
     let mut octets = [0u8; N];
     fill(rt, &mut octets)?;
@@ -120,8 +120,9 @@ fn advance(rt: &HostRuntime, table: &mut [u8], space: &mut [u8]) -> Result<(), E
 
 // A write to a filled buffer of the length asked for, and its line.
 fn write(rt: &HostRuntime, table: &mut [u8], port: u32, space: &mut [u8]) -> Result<(), Ending> {
-    let place = short(rt)? as u32;
-    let asked = short(rt)? as usize;
+    let rest = field::<4>(rt)?;
+    let place = octets::get(&rest, 0, 2) as u32;
+    let asked = octets::get(&rest, 2, 2) as usize;
     let mut filled = answers::filled();
     let buffer = &mut filled[..asked.min(answers::BUFFER)];
     let answer = bridge::write(table, port, place, buffer);
@@ -139,8 +140,9 @@ fn report(rt: &HostRuntime, table: &[u8], port: u32, space: &mut [u8]) -> Result
 
 // A why with a filled buffer of the length asked for, and its line.
 fn explain(rt: &HostRuntime, table: &[u8], port: u32, space: &mut [u8]) -> Result<(), Ending> {
-    let id = u64::from_be_bytes(field(rt)?);
-    let asked = short(rt)? as usize;
+    let rest = field::<10>(rt)?;
+    let id = octets::get(&rest, 0, 8);
+    let asked = octets::get(&rest, 8, 2) as usize;
     let mut filled = answers::filled();
     let buffer = &mut filled[..asked.min(answers::BUFFER)];
     let answer = bridge::why(table, id, port, buffer);
@@ -151,10 +153,10 @@ fn explain(rt: &HostRuntime, table: &[u8], port: u32, space: &mut [u8]) -> Resul
 
 // Stores an octet in the table's room; past it nothing happens.
 fn store(rt: &HostRuntime, room: &mut [u8]) -> Result<(), Ending> {
-    let at = short(rt)? as usize;
-    let [octet] = field::<1>(rt)?;
+    let rest = field::<3>(rt)?;
+    let at = octets::get(&rest, 0, 2) as usize;
     if at < room.len() {
-        room[at] = octet;
+        room[at] = rest[2];
     }
     Ok(())
 }

@@ -1,5 +1,5 @@
 -- The numbers so far are put behind the word.
-use Rattle.std.proofs.Common.{take, ◌++◌}
+use Rattle.std.proofs.Common.{take}
 use Rattle.octets.specs.Fields.{flat}
 use Rattle.console.specs.Text.{spaced}
 use Rattle.console.specs.Texts.{Puts}

@@ -18,7 +18,7 @@ loop-rest-preserved c =
     let l = c.loop-rest in
     let some : 0 < length l.rest.now = omega (arith, eqb-false _ 0 (sym c.loop-rest-test.ensures)) in
     let took = c.in-Some.ensures in
-    rw (rest-whole l.rest.now c.in-Some.done.size) (calling-more l.invariant some took.0 (omega (arith, took.1)) c.put_answer.ensures)
+    rw (rest-whole l.rest.now c.in-Some.done.size) (calling-more l.invariant some took.0 (omega (arith, took.1)) (rw c.number.ensures at c.put_answer.ensures))
 
 pub returns : goal.returns
 returns c = calling-end c.loop-rest.invariant (eqb-true _ 0 (sym c.loop-rest-test.ensures))
