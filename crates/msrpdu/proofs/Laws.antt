@@ -1,19 +1,21 @@
 -- Laws of the reader's definitions, one for each arm. Assumes nothing.
 use mathlib.Core.Path.{◌≡◌, refl, sym, ap, ◌∙◌}
-use mathlib.Core.List.{List}
+use mathlib.Core.List.{List, [], ◌∷◌}
 use mathlib.Core.Bool.{Bool, true, false, cond, ◌&&◌, ◌||◌}
 use Rattle.std.specs.Prelude.{Some, None, Ok, Err}
+use Rattle.std.specs.List.{list_any}
 use Prim.Native.Nat.{ℕ, zero, suc, ◌+◌, ◌-◌, ◌/◌, ◌%◌, ◌≤◌, ◌<◌, ◌^◌}
 use native.Mathlib.Omega.{arith}
 use lib.ListN.{length, get_or, take, drop, drop_of_length-le}
 use lib.Seq.{drop-cons}
 use native.Mathlib.Numerals.{add-one}
-use lib.Dec.{leb, eqb}
+use lib.Dec.{ltb, leb, eqb}
 use borrow.Author.Tests.{lt-ltb, le-ltb, lt-leb, eq-eqb, ne_eqb}
 use Rattle.octets.specs.Be.{be_at}
 use Rattle.octets.specs.Parts.{part}
 use Rattle.octets.proofs.Parts.{lent-part}
 use Rattle.model.proofs.Lists.{and-false}
+use Rattle.std.proofs.Common.{◌⊎◌, inl, inr}
 use Rattle.model.specs.Attributes.{type_of, code_of, attribute_at}
 use Rattle.model.specs.declared.attribute.Attribute as attribute
 use Rattle.model.specs.declared.attribute.Attribute.TheVariants as variant
@@ -54,6 +56,12 @@ module _ (l : List ℕ) (i : ℕ) where
     unfolding overpacked
     over-next q = rw (drop-cons l i 0 p, le-ltb 215 _ q, add-one i)
 
+-- the same of all by std's test of a list
+pub overpacked-any : (l : List ℕ) → overpacked l ≡ list_any (ltb 215) l
+unfolding overpacked
+overpacked-any [] = refl
+overpacked-any (o ∷ l) = rw (overpacked-any l)
+
 -- A growing field of FirstValue; x is what stands in the field that grows.
 
 pub value_read : (w g at : ℕ) (first : List ℕ) (n : ℕ) → at + w ≤ length first → (x : ℕ) → x ≡ be_at g first (at + w - g) → x + n ≤ 256 ^ g - 1
@@ -80,6 +88,39 @@ octet-unknown version (suc (suc zero)) l at e = cc
 octet-unknown version (suc (suc (suc zero))) l at e = cc
 octet-unknown version (suc (suc (suc (suc zero)))) l at e = cc
 octet-unknown version (suc (suc (suc (suc (suc n))))) l at e = refl
+
+-- What a type octet is read as, by what is known of it.
+
+pub known-read : (version o : ℕ) (a : attribute.Attribute) → attribute_at o ≡ Some a → type_read (type_octet version o) ≡ Ok (Some (a, first_length (type_of a)))
+unfolding type_read type_octet
+known-read version zero a e = cc
+known-read version (suc zero) a e = let i : variant.Advertise ≡ a = cc in rw (sym i) refl
+known-read version (suc (suc zero)) a e = let i : variant.Failed ≡ a = cc in rw (sym i) refl
+known-read version (suc (suc (suc zero))) a e = let i : variant.Listener ≡ a = cc in rw (sym i) refl
+known-read version (suc (suc (suc (suc zero)))) a e = let i : variant.Domain ≡ a = cc in rw (sym i) refl
+known-read version (suc (suc (suc (suc (suc n))))) a e = cc
+
+pub refused-read : (version o : ℕ) → attribute_at o ≡ None → (o ≡ 0) ⊎ (version ≡ 0) → type_read (type_octet version o) ≡ Err refusal.AttributeType
+unfolding type_read type_octet
+refused-read version zero e p = refl
+refused-read version (suc zero) e p = cc
+refused-read version (suc (suc zero)) e p = cc
+refused-read version (suc (suc (suc zero))) e p = cc
+refused-read version (suc (suc (suc (suc zero)))) e p = cc
+refused-read version (suc (suc (suc (suc (suc n))))) e (inl q) = absurd (omega arith)
+refused-read version (suc (suc (suc (suc (suc n))))) e (inr q) = rw (eq-eqb version 0 q)
+
+pub skipped-read : (version o : ℕ) → attribute_at o ≡ None → (o ≡ 0 → ⊥) → (version ≡ 0 → ⊥) → type_read (type_octet version o) ≡ Ok None
+unfolding type_read type_octet
+skipped-read version zero e p q = absurd (p refl)
+skipped-read version (suc zero) e p q = cc
+skipped-read version (suc (suc zero)) e p q = cc
+skipped-read version (suc (suc (suc zero))) e p q = cc
+skipped-read version (suc (suc (suc (suc zero)))) e p q = cc
+skipped-read version (suc (suc (suc (suc (suc n))))) e p q = rw (ne_eqb version 0 q)
+
+-- for a search, by what the octet is known as
+pub ruleset types_read = (known-read, refused-read, skipped-read)
 
 -- a known type is that of its AttributeType, with the octets of its FirstValue
 pub record Typed (t : TypeOctet) (a : attribute.Attribute) (n : ℕ) : Type 0 where
