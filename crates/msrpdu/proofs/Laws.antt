@@ -80,44 +80,41 @@ octet-known version (suc (suc (suc zero))) a e = let i : variant.Listener ≡ a 
 octet-known version (suc (suc (suc (suc zero)))) a e = let i : variant.Domain ≡ a = cc in ap (λ (b : attribute.Attribute). known (type_of b)) i
 octet-known version (suc (suc (suc (suc (suc n))))) a e = cc
 
+-- any but 0, which is never allowed, is decided by the version
+octet-other : (version o : ℕ) → attribute_at o ≡ None → (o ≡ 0 → ⊥) → type_octet version o ≡ cond (eqb version 0) not_allowed unknown
+unfolding type_octet
+octet-other version zero e p = absurd (p refl)
+octet-other version (suc zero) e p = cc
+octet-other version (suc (suc zero)) e p = cc
+octet-other version (suc (suc (suc zero))) e p = cc
+octet-other version (suc (suc (suc (suc zero)))) e p = cc
+octet-other version (suc (suc (suc (suc (suc n))))) e p = refl
+
 pub octet-unknown : (version o : ℕ) (l : List ℕ) (at : ℕ) → attribute_at o ≡ None → typed_read version (type_octet 0 o) l at ≡ Err refusal.AttributeType
 unfolding typed_read type_octet
 octet-unknown version zero l at e = refl
-octet-unknown version (suc zero) l at e = cc
-octet-unknown version (suc (suc zero)) l at e = cc
-octet-unknown version (suc (suc (suc zero))) l at e = cc
-octet-unknown version (suc (suc (suc (suc zero)))) l at e = cc
-octet-unknown version (suc (suc (suc (suc (suc n))))) l at e = refl
+octet-unknown version (suc o) l at e = rw (octet-other 0 (suc o) e (λ p. absurd (omega (arith, p)))) refl
 
 -- What a type octet is read as, by what is known of it.
 
 pub known-read : (version o : ℕ) (a : attribute.Attribute) → attribute_at o ≡ Some a → type_read (type_octet version o) ≡ Ok (Some (a, first_length (type_of a)))
-unfolding type_read type_octet
-known-read version zero a e = cc
-known-read version (suc zero) a e = let i : variant.Advertise ≡ a = cc in rw (sym i) refl
-known-read version (suc (suc zero)) a e = let i : variant.Failed ≡ a = cc in rw (sym i) refl
-known-read version (suc (suc (suc zero))) a e = let i : variant.Listener ≡ a = cc in rw (sym i) refl
-known-read version (suc (suc (suc (suc zero)))) a e = let i : variant.Domain ≡ a = cc in rw (sym i) refl
-known-read version (suc (suc (suc (suc (suc n))))) a e = cc
+known-read version o a e = rw (octet-known version o a e) (named a)
+  where
+    named : (b : attribute.Attribute) → type_read (known (type_of b)) ≡ Ok (Some (b, first_length (type_of b)))
+    named variant.Advertise = unfold type_read in refl
+    named variant.Failed = unfold type_read in refl
+    named variant.Listener = unfold type_read in refl
+    named variant.Domain = unfold type_read in refl
 
 pub refused-read : (version o : ℕ) → attribute_at o ≡ None → (o ≡ 0) ⊎ (version ≡ 0) → type_read (type_octet version o) ≡ Err refusal.AttributeType
 unfolding type_read type_octet
 refused-read version zero e p = refl
-refused-read version (suc zero) e p = cc
-refused-read version (suc (suc zero)) e p = cc
-refused-read version (suc (suc (suc zero))) e p = cc
-refused-read version (suc (suc (suc (suc zero)))) e p = cc
-refused-read version (suc (suc (suc (suc (suc n))))) e (inl q) = absurd (omega arith)
-refused-read version (suc (suc (suc (suc (suc n))))) e (inr q) = rw (eq-eqb version 0 q)
+refused-read version (suc o) e (inl q) = absurd (omega (arith, q))
+refused-read version (suc o) e (inr q) = rw (octet-other version (suc o) e (λ p. absurd (omega (arith, p))), eq-eqb version 0 q) refl
 
 pub skipped-read : (version o : ℕ) → attribute_at o ≡ None → (o ≡ 0 → ⊥) → (version ≡ 0 → ⊥) → type_read (type_octet version o) ≡ Ok None
-unfolding type_read type_octet
-skipped-read version zero e p q = absurd (p refl)
-skipped-read version (suc zero) e p q = cc
-skipped-read version (suc (suc zero)) e p q = cc
-skipped-read version (suc (suc (suc zero))) e p q = cc
-skipped-read version (suc (suc (suc (suc zero)))) e p q = cc
-skipped-read version (suc (suc (suc (suc (suc n))))) e p q = rw (ne_eqb version 0 q)
+unfolding type_read
+skipped-read version o e p q = rw (octet-other version o e p, ne_eqb version 0 q) refl
 
 -- for a search, by what the octet is known as
 pub ruleset types_read = (known-read, refused-read, skipped-read)
